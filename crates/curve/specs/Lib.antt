@@ -1,0 +1,3 @@
+pub mod Hilbert
+pub mod Grid
+pub mod Laws
