@@ -1,0 +1,5 @@
+pub mod Ranks
+pub mod Carried
+pub mod PlaneLaws
+pub mod CourseLaws
+pub mod Padding
