@@ -6,6 +6,7 @@ use mathlib.Core.List.{List, [], _∷_, _++_}
 use lib.ListN.{length, replicate}
 use lib.Dec.{leb}
 use Rattle.kinds.specs.Bytes.{le16}
+use Rattle.kinds.specs.Faults.{padded}
 use Rattle.kinds.specs.Rules.{Model}
 
 -- A 32-bit number in four bytes, the lowest first, before other bytes.
@@ -16,14 +17,14 @@ le32 n rest = (n % 256) ∷ ((n / 256 % 256) ∷ ((n / 65536 % 256) ∷ ((n / 16
 abbrev pub header : ℕ → ℕ → ℕ → List ℕ
 header serial width size = le16 64 (le16 17 (le32 serial (width ∷ (size ∷ []))))
 
--- Bytes, and zeros up to n.
-abbrev pub padded-to : ℕ → List ℕ → List ℕ
-padded-to n bytes = bytes ++ replicate (n - length bytes) 0
+-- A text in 30 bytes, the rest zero.
+abbrev pub text-bytes : List ℕ → List ℕ
+text-bytes text = text ++ replicate (30 - length text) 0
 
 -- The message of a query: the header, the region in 24 bytes, and the text in 30.
 unfoldable pub message : {P R : Type 0} → Model P R → ℕ → R → List ℕ → List ℕ
 message m serial region text =
-    header serial (m .width) (length text) ++ (padded-to 24 (m .bytes region) ++ padded-to 30 text)
+    header serial (m .width) (length text) ++ (padded (m .width) (m .bytes region) ++ text-bytes text)
 
 -- A text has 1 to 30 bytes.
 abbrev pub text-fits : List ℕ → Bool
