@@ -1,0 +1,4 @@
+pub mod Table
+pub mod Marks
+pub mod View
+pub mod Calls
