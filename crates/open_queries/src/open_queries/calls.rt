@@ -131,7 +131,7 @@ impl OpenQueries {
         if vacant(&self.entries).is_none() {
             return Err(OpenFault::TooMany);
         }
-        if self.next > LAST_SERIAL {
+        if LAST_SERIAL < self.next {
             return Err(OpenFault::LastSerial);
         }
         Ok(self.next as u32)
