@@ -7,20 +7,20 @@ use Rattle.buckets.specs.Regions.{joined-with, region-of, CoversAll, RegionLaw
 
 module _ {P R : Type 0} (m : Model P R) (laws : Laws m) where
   within-left : (a b : R) → Within m a (m .joined a b)
-  within-left a b = sym (laws .join-associates a a b) ∙ ap (λ x. m .joined x b) (laws .join-repeats a)
+  within-left a b = sym (laws .join-associative a a b) ∙ ap (λ x. m .joined x b) (laws .join-idempotent a)
 
   within-right : (a b : R) → Within m b (m .joined a b)
-  within-right a b = ap (m .joined b) (laws .join-commutes a b) ∙ within-left b a ∙ laws .join-commutes b a
+  within-right a b = ap (m .joined b) (laws .join-commutative a b) ∙ within-left b a ∙ laws .join-commutative b a
 
   within-chains : (a b c : R) → Within m a b → Within m b c → Within m a c
   within-chains a b c p q =
-      ap (m .joined a) (sym q) ∙ sym (laws .join-associates a b c) ∙ ap (λ x. m .joined x c) p ∙ q
+      ap (m .joined a) (sym q) ∙ sym (laws .join-associative a b c) ∙ ap (λ x. m .joined x c) p ∙ q
 
   join-within : (a b c : R) → Within m a c → Within m b c → Within m (m .joined a b) c
-  join-within a b c p q = laws .join-associates a b c ∙ ap (m .joined a) q ∙ p
+  join-within a b c p q = laws .join-associative a b c ∙ ap (m .joined a) q ∙ p
 
   start-within : (r : R) (es : List (Entry P)) → Within m r (joined-with m r es)
-  start-within r [] = laws .join-repeats r
+  start-within r [] = laws .join-idempotent r
   start-within r (e ∷ es) =
       within-chains r (m .joined r (m .single (e .place))) _ (within-left r (m .single (e .place)))
       (start-within (m .joined r (m .single (e .place))) es)

@@ -58,12 +58,12 @@ module _ {P R : Type 0} (m : Model P R) where
       where
         before-all : ahead m e f ≡ true → (x : Entry P) → (x ≡ f) ⊎ In x fs → ahead m e x ≡ true
         before-all h x (inl q) = subst (λ u. ahead m e u ≡ true) (sym q) h
-        before-all h x (inr i) = laws .chains e f x a (all f here) (all x (later i)) h (s .0 x i)
+        before-all h x (inr i) = laws .transitive e f x a (all f here) (all x (later i)) h (s .0 x i)
 
         first-stays : ahead m e f ≡ false → (x : Entry P) → (x ≡ e) ⊎ In x fs → ahead m f x ≡ true
         first-stays h x (inl q) =
             subst (λ u. ahead m f u ≡ true) (sym q)
-            (laws .tells e f a (all f here) (ne f here) (λ t. true≢false (sym t ∙ h)))
+            (laws .total e f a (all f here) (ne f here) (λ t. true≢false (sym t ∙ h)))
         first-stays h x (inr i) = s .0 x i
 
         go : (b : Bool) → ahead m e f ≡ b → Sorted m (inserted m e fs) → Sorted m (cond b (e ∷ (f ∷ fs)) (f ∷ inserted m e fs))
@@ -72,7 +72,7 @@ module _ {P R : Type 0} (m : Model P R) where
 
     -- Sorted lists with the same members are the same.
     asym : (a b : Entry P) → Admitted m (a .place) → Admitted m (b .place) → ahead m a b ≡ true → ahead m b a ≡ true → ⊥
-    asym a b fa fb p q = laws .not-itself a fa (laws .chains a b a fa fb fa p q)
+    asym a b fa fb p q = laws .irreflexive a fa (laws .transitive a b a fa fb fa p q)
 
     pub one-sorted : (xs ys : List (Entry P)) → AllAdmitted m xs → Sorted m xs → Sorted m ys
         → ((e : Entry P) → In e xs → In e ys) → ((e : Entry P) → In e ys → In e xs) → xs ≡ ys
@@ -96,7 +96,7 @@ module _ {P R : Type 0} (m : Model P R) where
             ⊎-elim
             (λ q.
             let l = subst (λ u. ahead m u e ≡ true) (first ∙ sym q) (s .0 e i) in
-            absurd (laws .not-itself e (a e (later i)) l))
+            absurd (laws .irreflexive e (a e (later i)) l))
             (λ j. j)
             (in-cons (f e (later i)))
 
@@ -105,7 +105,7 @@ module _ {P R : Type 0} (m : Model P R) where
             ⊎-elim
             (λ q.
             let l = subst (λ u. ahead m u e ≡ true) (sym first ∙ sym q) (r .0 e i) in
-            absurd (laws .not-itself e (fine e (later i)) l))
+            absurd (laws .irreflexive e (fine e (later i)) l))
             (λ j. j)
             (in-cons (g e (later i)))
 
@@ -166,7 +166,7 @@ module _ {P R : Type 0} (m : Model P R) where
           let y = o f (later i) in
           let z : at (e .set) ≡ at (f .set) = ap at q in
           let t : e .place ≡ f .place = cc in
-          laws .not-itself e (a (e .set) (e .place) x)
+          laws .irreflexive e (a (e .set) (e .place) x)
           (subst (λ u. ahead m e u ≡ true) (sym (same-entry e f q t)) (s .0 f i))),
       each-once at es a (s .1) (λ f i. o f (later i)),
     )

@@ -79,8 +79,8 @@ module _ {P R : Type 0} (m : Model P R) where
 
 -- What the proofs above use of who stands first, on entries at admitted places.
 pub record AheadLaws {P R : Type 0} (m : Model P R) : Type 0 where
-  pub not-itself : (a : Entry P) → Admitted m (a .place) → ahead m a a ≡ true → ⊥
-  pub chains : (a b c : Entry P) → Admitted m (a .place) → Admitted m (b .place) → Admitted m (c .place)
+  pub irreflexive : (a : Entry P) → Admitted m (a .place) → ahead m a a ≡ true → ⊥
+  pub transitive : (a b c : Entry P) → Admitted m (a .place) → Admitted m (b .place) → Admitted m (c .place)
       → ahead m a b ≡ true → ahead m b c ≡ true → ahead m a c ≡ true
-  pub tells : (a b : Entry P) → Admitted m (a .place) → Admitted m (b .place) → (a ≡ b → ⊥)
+  pub total : (a b : Entry P) → Admitted m (a .place) → Admitted m (b .place) → (a ≡ b → ⊥)
       → (ahead m a b ≡ true → ⊥) → ahead m b a ≡ true

@@ -8,7 +8,7 @@ use lib.Dec.{ltb}
 use Rattle.std.proofs.shelf.Tests.{lt-ltb, le-ltb}
 use Rattle.std.proofs.shelf.Ways.{leb-tells}
 use Rattle.curve.specs.declared.Cell.{Cell}
-use Rattle.curve.specs.Hilbert.{cell, digit, turned, inner, outer}
+use Rattle.curve.specs.Hilbert.{cell, digit, reflected, inner, outer}
 use Rattle.curve.specs.Laws.{InSquare, Beside}
 
 pub below-or-not : (a b : ℕ) → (a < b) ⊎ (b ≤ a)

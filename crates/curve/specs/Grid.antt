@@ -39,11 +39,11 @@ LeadsBack c None = Unit {0}
 LeadsBack c (Some k) = (k < 16777216) × (cell-of 12 k ≡ c)
 
 -- The cell c has the key k, and the cell of the next key lies beside it.
-pub record Stands (k : ℕ) (c : Cell) : Type 0 where
+pub record AtKey (k : ℕ) (c : Cell) : Type 0 where
   pub has-key : grid-key c ≡ Some k
   pub next-beside : k + 1 < 16777216 → Beside c (cell-of 12 (k + 1))
 
--- A cell that was given stands on the curve at the key that it was given for.
-abbrev pub Continues : ℕ → Option Cell → Type 0
-Continues k None = Unit {0}
-Continues k (Some c) = Stands k c
+-- A cell that was given has the key that it was given for.
+abbrev pub OnCurve : ℕ → Option Cell → Type 0
+OnCurve k None = Unit {0}
+OnCurve k (Some c) = AtKey k c

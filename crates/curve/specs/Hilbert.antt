@@ -1,5 +1,5 @@
 -- Hilbert's curve of 1891, by recursion on its order: the key of each cell, and the cell of each key.
--- The curve of order m passes through the cells of a square of side 2 ^ m, and a cell's key is its place on the curve.
+-- The curve of order m passes through the cells of a square of side 2 ^ m, and a cell's key is its position on the curve.
 use Prim.Native.Nat.{ℕ, zero, suc, _+_, _-_, _*_, _/_, _%_, _^_}
 use mathlib.Core.Bool.{cond}
 use lib.Dec.{ltb}
@@ -24,13 +24,13 @@ by-digit (suc zero) a b c d = b
 by-digit (suc (suc zero)) a b c d = c
 by-digit (suc (suc (suc n))) a b c d = d
 
--- A cell's place within its quarter, turned so that the curve within begins and ends where the curve around it does:
+-- A cell's position within its quarter, reflected so that each quarter's curve begins beside the end of the one before:
 -- with u = x mod s and v = y mod s it is (v, u) for digit 0, (u, v) for 1 and 2, and (s − 1 − v, s − 1 − u) for 3.
-abbrev pub turned : ℕ → ℕ → ℕ → ℕ → Cell
-turned s d u v = by-digit d (cell v u) (cell u v) (cell u v) (cell (s - 1 - v) (s - 1 - u))
+abbrev pub reflected : ℕ → ℕ → ℕ → ℕ → Cell
+reflected s d u v = by-digit d (cell v u) (cell u v) (cell u v) (cell (s - 1 - v) (s - 1 - u))
 
 abbrev pub inner : ℕ → Cell → Cell
-inner s c = turned s (digit s c) (c .x % s) (c .y % s)
+inner s c = reflected s (digit s c) (c .x % s) (c .y % s)
 
 -- The key of order 0 is 0. That of order m + 1, with s = 2 ^ m, is digit · s² plus the inner cell's key of order m.
 abbrev pub key-of : ℕ → Cell → ℕ

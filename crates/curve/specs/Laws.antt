@@ -28,9 +28,9 @@ pub record CurveLaws (m : ℕ) : Type 0 where
   pub one-key : (a b : Cell) → InSquare (2 ^ m) a → InSquare (2 ^ m) b → key-of m a ≡ key-of m b → a ≡ b
   pub steps-beside : (k : ℕ) → k + 1 < cells m → Beside (cell-of m k) (cell-of m (k + 1))
 
--- Ten keys of order 12, worked out by hand.
-abbrev pub MarkedKeys : Type 0
-MarkedKeys =
+-- Ten known keys of order 12.
+abbrev pub KnownKeys : Type 0
+KnownKeys =
     (key-of 12 (cell 0 0) ≡ 0)
     × (key-of 12 (cell 1 0) ≡ 1)
     × (key-of 12 (cell 1 1) ≡ 2)

@@ -4,8 +4,8 @@ ghost use Prim.Native.Nat.{ℕ, _+_, _*_, _^_, _<_, _≤_};
 ghost use Rattle.std.specs.declared.option.Option.the-variants.{Some};
 ghost use Rattle.std.specs.Keys.{rank};
 ghost use Rattle.curve.specs.Hilbert.{cell as cell-at, cells, digit as digit-of, inner as inner-of, outer as outer-of, key-of, cell-of};
-ghost use Rattle.curve.specs.Grid.{grid-key, grid-cell, by-key, LeadsBack, Stands, Continues};
-ghost use Rattle.curve.specs.Laws.{InSquare, CurveLaws, MarkedKeys};
+ghost use Rattle.curve.specs.Grid.{grid-key, grid-cell, by-key, LeadsBack, AtKey, OnCurve};
+ghost use Rattle.curve.specs.Laws.{InSquare, CurveLaws, KnownKeys};
 use std::cmp::Ordering;
 
 /// The order of the curve.
@@ -104,7 +104,7 @@ fn cell_from(m: u32, n: u32, k: u32, x: u32, y: u32) -> Cell
 fn cell_at(k: u32) -> Cell
     requires { ⌜ k < 16777216 ⌝ }
     ensures value { λ r. ⌜ Some r ≡ grid-cell k ⌝ }
-    ensures back { λ r. ⌜ Stands k r ⌝ }
+    ensures back { λ r. ⌜ AtKey k r ⌝ }
 {
     cell_from(ORDER, 0, k, 0, 0)
 }
@@ -131,7 +131,7 @@ pub fn key_of(cell: Cell) -> Option<u32>
 /// The cell of a key, or `None` where the key is too large.
 pub fn cell_of(key: u32) -> Option<Cell>
     ensures value { λ r. ⌜ r ≡ grid-cell key ⌝ }
-    ensures back { λ r. ⌜ Continues key r ⌝ }
+    ensures on_curve { λ r. ⌜ OnCurve key r ⌝ }
 {
     if key < KEYS { Some(cell_at(key)) } else { None }
 }
@@ -151,7 +151,7 @@ pub fn curve_laws()
     ensures { λ _. ⌜ ((m : ℕ) → CurveLaws m) ⌝ }
 {}
 
-/// Ten keys that were worked out by hand are those of the definition.
-pub fn marked_keys()
-    ensures { λ _. ⌜ MarkedKeys ⌝ }
+/// Ten known keys are those of the definition.
+pub fn known_keys()
+    ensures { λ _. ⌜ KnownKeys ⌝ }
 {}

@@ -14,12 +14,12 @@ abbrev pub word-at : List ℕ → ℕ → ℕ
 word-at bytes i = word (getD bytes i 0) (getD bytes (i + 1) 0)
 
 -- A record's length, which counts all bytes of the record, and its kind.
-abbrev pub told-length : List ℕ → ℕ
-told-length bytes = word-at bytes 0
+abbrev pub record-length : List ℕ → ℕ
+record-length bytes = word-at bytes 0
 
-abbrev pub told-kind : List ℕ → ℕ
-told-kind bytes = word-at bytes 2
+abbrev pub record-kind : List ℕ → ℕ
+record-kind bytes = word-at bytes 2
 
 -- The bytes left begin with a whole record: there are two for its length, which is at least 4 and at most what is left.
 abbrev pub whole : List ℕ → Bool
-whole bytes = leb 2 (length bytes) && (leb 4 (told-length bytes) && leb (told-length bytes) (length bytes))
+whole bytes = leb 2 (length bytes) && (leb 4 (record-length bytes) && leb (record-length bytes) (length bytes))

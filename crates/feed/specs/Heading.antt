@@ -12,7 +12,7 @@ use Rattle.feed.specs.declared.Heading.{Heading}
 use Rattle.feed.specs.declared.Heading.the-variants.{Plane, Course, PlaneByWater, CourseByWater}
 use Rattle.feed.specs.declared.ReadFault.{ReadFault}
 use Rattle.feed.specs.declared.ReadFault.the-variants.{Cut, WrongKind, WrongLength, NoPlaceKind}
-use Rattle.feed.specs.Bytes.{word-at, told-length, told-kind, whole}
+use Rattle.feed.specs.Bytes.{word-at, record-length, record-kind, whole}
 
 -- The refusal of each fault.
 abbrev pub read-refusal : ReadFault → Refusal
@@ -34,7 +34,7 @@ named n =
 abbrev pub heading-of : List ℕ → Result Heading ReadFault
 heading-of bytes =
     cond (whole bytes)
-    (cond (eqb (told-kind bytes) 0)
-    (cond (eqb (told-length bytes) 6) (named (word-at bytes 4)) (Err WrongLength))
+    (cond (eqb (record-kind bytes) 0)
+    (cond (eqb (record-length bytes) 6) (named (word-at bytes 4)) (Err WrongLength))
     (Err WrongKind))
     (Err Cut)

@@ -28,7 +28,7 @@ pub enum Heading {
 /// Why a record cannot be read; each stops the feed.
 #[derive(Clone, Copy, PartialEq, Eq, Debug)]
 pub enum ReadFault {
-    /// The bytes left hold no whole record.
+    /// Under 2 bytes are left, or the length is below 4 or beyond them.
     Cut,
     /// The first record is no heading.
     WrongKind,

@@ -94,21 +94,21 @@ span-repeats a = search needs
 one-place : (a b : CoursePlace) → span (stretch b b) (stretch a a) ≡ stretch a a → b ≡ a
 one-place a b h = search needs
 
-bytes-tell : (a b : CourseRegion) → course-bytes a ≡ course-bytes b → a ≡ b
-bytes-tell a b h = search needs
+bytes-injective : (a b : CourseRegion) → course-bytes a ≡ course-bytes b → a ≡ b
+bytes-injective a b h = search needs
 
 pub course-laws : Laws course
 course-laws =
     record {
-      order-flips = λ a b p q. reach-flips a b;
-      order-chains = λ a b c p q r. reach-chains a b c;
-      order-tells = λ a b p q. reach-tells a b;
+      order-antisymmetric = λ a b p q. reach-flips a b;
+      order-transitive = λ a b c p q r. reach-chains a b c;
+      order-equal-same = λ a b p q. reach-tells a b;
       covers-one = λ a b p q. one-place a b;
-      join-associates = λ a b c.
+      join-associative = λ a b c.
           same-stretch _ _ _ _ (lower-associates (a .low) (b .low) (c .low)) (higher-associates (a .high) (b .high) (c .high));
-      join-commutes = λ a b.
+      join-commutative = λ a b.
           same-stretch _ _ _ _ (lower-commutes (a .low) (b .low)) (higher-commutes (a .high) (b .high));
-      join-repeats = span-repeats;
-      bytes-fill = λ a h. refl;
-      bytes-tell = λ a b h. bytes-tell a b;
+      join-idempotent = span-repeats;
+      bytes-length = λ a h. refl;
+      bytes-injective = λ a b h. bytes-injective a b;
     }

@@ -10,14 +10,15 @@ use Rattle.curve.specs.Grid.{on-grid}
 use Rattle.kinds.specs.declared.plane_place.PlanePlace.{PlanePlace}
 use Rattle.kinds.specs.declared.plane.PlaneRegion.{PlaneRegion}
 use Rattle.kinds.specs.Bytes.{le16}
+use Rattle.kinds.specs.Keyed.{carried}
 use Rattle.kinds.specs.Rules.{Model}
 
 abbrev pub cell-of-place : PlanePlace → Cell
 cell-of-place p = cell (p .x) (p .y)
 
--- Of two places of the grid, the key that each carries is that of its cell.
+-- By the keys of their cells; a cell outside the grid stands behind all others.
 abbrev pub by-key : PlanePlace → PlanePlace → Ordering
-by-key a b = rank (a .key) (b .key)
+by-key a b = rank (carried (cell-of-place a)) (carried (cell-of-place b))
 
 abbrev pub rectangle : ℕ → ℕ → ℕ → ℕ → PlaneRegion
 rectangle a b c d = record { «low_x» = a; «high_x» = b; «low_y» = c; «high_y» = d }

@@ -33,13 +33,13 @@ Covers m r p = Within m (m .single p) r
 -- covers no other admitted place; joining is associative, commutative and idempotent; and regions of up to 24 bytes have
 -- as many bytes as the kind's width says, and are told apart by them.
 pub record Laws {P R : Type 0} (m : Model P R) : Type 0 where
-  pub order-flips : (a b : P) → Admitted m a → Admitted m b → m .order a b ≡ reversed (m .order b a)
-  pub order-chains : (a b c : P) → Admitted m a → Admitted m b → Admitted m c
+  pub order-antisymmetric : (a b : P) → Admitted m a → Admitted m b → m .order a b ≡ reversed (m .order b a)
+  pub order-transitive : (a b c : P) → Admitted m a → Admitted m b → Admitted m c
       → m .order a b ≡ Less → m .order b c ≡ Less → m .order a c ≡ Less
-  pub order-tells : (a b : P) → Admitted m a → Admitted m b → m .order a b ≡ Equal → a ≡ b
+  pub order-equal-same : (a b : P) → Admitted m a → Admitted m b → m .order a b ≡ Equal → a ≡ b
   pub covers-one : (a b : P) → Admitted m a → Admitted m b → Covers m (m .single a) b → b ≡ a
-  pub join-associates : (a b c : R) → m .joined (m .joined a b) c ≡ m .joined a (m .joined b c)
-  pub join-commutes : (a b : R) → m .joined a b ≡ m .joined b a
-  pub join-repeats : (a : R) → m .joined a a ≡ a
-  pub bytes-fill : (a : R) → m .width ≤ 24 → length (m .bytes a) ≡ m .width
-  pub bytes-tell : (a b : R) → m .width ≤ 24 → m .bytes a ≡ m .bytes b → a ≡ b
+  pub join-associative : (a b c : R) → m .joined (m .joined a b) c ≡ m .joined a (m .joined b c)
+  pub join-commutative : (a b : R) → m .joined a b ≡ m .joined b a
+  pub join-idempotent : (a : R) → m .joined a a ≡ a
+  pub bytes-length : (a : R) → m .width ≤ 24 → length (m .bytes a) ≡ m .width
+  pub bytes-injective : (a b : R) → m .width ≤ 24 → m .bytes a ≡ m .bytes b → a ≡ b

@@ -8,7 +8,7 @@ use crate::fault::KindFault;
 use std::cmp::Ordering;
 
 /// How many bytes of a message a region may fill.
-pub const ROOM: usize = 24;
+const ROOM: usize = 24;
 
 /// A kind of place, implemented by its places. `model` says what it is, and `lawful` that it meets the rules; every
 /// function answers what the model says, and changes nothing.

@@ -1,4 +1,4 @@
-//! Kinds of places: what every kind has, and three of them. Everything above is written for every kind.
+//! Kinds of places: what every kind has, and three of them. The crates above are written once, for every kind.
 mod bytes;
 mod course;
 mod fault;

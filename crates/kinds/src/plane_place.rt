@@ -52,7 +52,7 @@ impl PlanePlace {
     }
 
     pub(crate) fn compare_keys(&self, other: &PlanePlace) -> Ordering
-        ensures { λ r. ⌜ r ≡ rank (now (self .entry) .key) (now (other .entry) .key) ⌝ }
+        ensures { λ r. ⌜ r ≡ rank (carried (cell-at (now (self .entry) .x) (now (self .entry) .y))) (carried (cell-at (now (other .entry) .x) (now (other .entry) .y))) ⌝ }
     {
         self.key.cmp(&other.key)
     }

@@ -1,8 +1,11 @@
 //! The lines in use, from what a line means alone.
 ghost use mathlib.Core.Path.{_≡_};
-ghost use Prim.Native.Nat.{_≤_};
+ghost use mathlib.Core.Bool.{false};
+ghost use mathlib.Core.List.{[]};
 ghost use lib.ListN.{length};
 ghost use Rattle.std.specs.declared.result.Result.the-variants.{Ok};
+ghost use Rattle.std.specs.Results.{isOk};
+ghost use Rattle.lines.specs.Spool.{slots-in};
 ghost use Rattle.line_examples.specs.Passing.{passed, after-pass};
 use lines::Line;
 use lines::LineFault;
@@ -16,6 +19,7 @@ pub fn pass<L: Line>(line: &mut L, message: [u8; 64]) -> Result<[u8; 64], LineFa
     ensures answer { λ r. ⌜ r ≡ passed (capacity (now (line .entry))) (waiting (now (line .entry))) message ⌝ }
     ensures waits { λ _. ⌜ waiting (now (line .exit)) ≡ after-pass (capacity (now (line .entry))) (waiting (now (line .entry))) message ⌝ }
     ensures holds { λ _. ⌜ capacity (now (line .exit)) ≡ capacity (now (line .entry)) ⌝ }
+    ensures refused { λ r. ⌜ (isOk r ≡ false → now (line .exit) ≡ now (line .entry)) ⌝ }
 {
     line.send(&message)?;
     let mut space = message;
@@ -31,9 +35,9 @@ pub fn through_a_cell(message: [u8; 64]) -> Result<[u8; 64], LineFault>
     pass(&mut cell, message)
 }
 
-/// So does an empty spool over at least 64 bytes.
+/// So does an empty spool, where its bytes have a slot.
 pub fn through_a_spool(bytes: &mut [u8], message: [u8; 64]) -> Result<[u8; 64], LineFault>
-    ensures { λ r. ⌜ (64 ≤ length (now (bytes .entry)) → r ≡ Ok message) ⌝ }
+    ensures { λ r. ⌜ r ≡ passed (slots-in (length (now (bytes .entry)))) [] message ⌝ }
 {
     let mut spool = Spool::new(bytes);
     pass(&mut spool, message)
@@ -49,18 +53,18 @@ mod tests {
     use lines::SpoolLine;
     use std::test::*;
 
-    fn places_over(bytes: &mut [u8]) -> usize {
+    fn slots_over(bytes: &mut [u8]) -> usize {
         Spool::new(bytes).spare()
     }
 
     #[test]
-    fn a_spool_has_a_place_for_each_64_bytes(rt: LibcRuntime) -> Result<(), Fail> {
+    fn a_spool_has_a_slot_for_each_64_bytes(rt: LibcRuntime) -> Result<(), Fail> {
         let mut short = [0; 63];
-        check_eq(places_over(&mut short), 0)?;
+        check_eq(slots_over(&mut short), 0)?;
         let mut one = [0; 64];
-        check_eq(places_over(&mut one), 1)?;
+        check_eq(slots_over(&mut one), 1)?;
         let mut long = vec![in rt.alloc(); 0u8; 65_600]?;
-        check_eq(places_over(long.as_mut_slice()), 1024)
+        check_eq(slots_over(long.as_mut_slice()), 1024)
     }
 
     fn take_first_byte<L: Line>(line: &mut L) -> Result<u8, LineFault> {
@@ -69,7 +73,7 @@ mod tests {
         Ok(space[0])
     }
 
-    // Fills a line of two places, empties it, and leaves it empty.
+    // Fills a line of capacity 2 and empties it.
     fn goes_round<L: Line>(line: &mut L) -> Result<(), Fail> {
         check_eq(line.send(&[1; 64]), Ok(()))?;
         check_eq(line.send(&[2; 64]), Ok(()))?;
@@ -83,7 +87,7 @@ mod tests {
     }
 
     #[test]
-    fn freed_places_serve_again() -> Result<(), Fail> {
+    fn freed_slots_serve_again() -> Result<(), Fail> {
         let mut bytes = [0; 128];
         let mut spool = Spool::new(&mut bytes);
         goes_round(&mut spool)?;

@@ -38,7 +38,7 @@ module _ {P R : Type 0} (m : Model P R) (l : Laws m) where
       → length (message m serial region text) ≡ 64
   unfolding message
   size serial region text w t =
-      let r = region-length (m .width) (m .bytes region) w (l .bytes-fill region w) in
+      let r = region-length (m .width) (m .bytes region) w (l .bytes-length region w) in
       let u = text-length text t in
       length-append (header serial (m .width) (length text)) (padded (m .width) (m .bytes region) ++ text-bytes text)
       ∙ omega (arith, length-append (padded (m .width) (m .bytes region)) (text-bytes text))
@@ -50,11 +50,11 @@ module _ {P R : Type 0} (m : Model P R) (l : Laws m) where
       let wide = m .width in
       let h = split-front (header s₁ wide (length t₁)) _ (header s₂ wide (length t₂)) _ refl e in
       let s = serial-tells s₁ s₂ wide wide (length t₁) (length t₂) (h .0) in
-      let lr₁ = region-length wide (m .bytes r₁) w (l .bytes-fill r₁ w) in
-      let lr₂ = region-length wide (m .bytes r₂) w (l .bytes-fill r₂ w) in
+      let lr₁ = region-length wide (m .bytes r₁) w (l .bytes-length r₁ w) in
+      let lr₂ = region-length wide (m .bytes r₂) w (l .bytes-length r₂ w) in
       let q = split-front (padded wide (m .bytes r₁)) _ (padded wide (m .bytes r₂)) _ (lr₁ ∙ sym lr₂) (h .1) in
       let rs = append-cancel-right (m .bytes r₁) (m .bytes r₂) (replicate (24 - wide) 0) (q .0) in
-      (s .0, (l .bytes-tell r₁ r₂ w rs, text-tells t₁ t₂ (s .1) (q .1)))
+      (s .0, (l .bytes-injective r₁ r₂ w rs, text-tells t₁ t₂ (s .1) (q .1)))
 
   pub message-laws : MessageLaws m
   message-laws = record { size = size; tells = all-tell }

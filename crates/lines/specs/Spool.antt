@@ -6,11 +6,11 @@ use Rattle.lines.specs.declared.spool.Spool.{Spool}
 use Rattle.lines.specs.Ring.{ring}
 
 abbrev pub spool-waiting : Spool → List (List ℕ)
-spool-waiting s = ring (now (s .bytes)) (s .places) (s .first) (s .count)
+spool-waiting s = ring (now (s .bytes)) (s .slots) (s .first) (s .count)
 
 abbrev pub spool-capacity : Spool → ℕ
-spool-capacity s = s .places
+spool-capacity s = s .slots
 
--- The places that so many bytes have room for, at most 1,024.
-abbrev pub places-in : ℕ → ℕ
-places-in size = min (size / 64) 1024
+-- The slots that so many bytes have room for, at most 1,024.
+abbrev pub slots-in : ℕ → ℕ
+slots-in size = min (size / 64) 1024

@@ -2,7 +2,8 @@
 ghost use mathlib.Core.Path.{_≡_};
 ghost use mathlib.Core.Bool.{false};
 ghost use mathlib.Core.List.{List};
-ghost use Prim.Native.Nat.{ℕ};
+ghost use Prim.Native.Nat.{ℕ, _≤_};
+ghost use lib.ListN.{length};
 ghost use denote.Ref.{now};
 ghost use Rattle.std.specs.Results.{isOk};
 ghost use Rattle.lines.specs.Meaning.{spare-of, send-answer, after-send, take-answer, after-take, space-after};
@@ -15,9 +16,10 @@ pub trait Line {
 
     ghost capacity: { Self → ℕ };
 
-    /// How many more messages the line can take.
+    /// How many more messages the line can take. No more wait than the capacity.
     fn spare(&self) -> usize
-        ensures { λ r. ⌜ r ≡ spare-of (capacity (now (self .entry))) (waiting (now (self .entry))) ⌝ };
+        ensures value { λ r. ⌜ r ≡ spare-of (capacity (now (self .entry))) (waiting (now (self .entry))) ⌝ }
+        ensures bound { λ _. ⌜ length (waiting (now (self .entry))) ≤ capacity (now (self .entry)) ⌝ };
 
     /// Adds a message at the end.
     fn send(&mut self, message: &[u8]) -> Result<(), LineFault>

@@ -14,7 +14,7 @@ use crate::fault::MessageFaultFromKind;
 use kinds::PlaceKind;
 
 /// How many bytes a text may have.
-pub const MOST_TEXT: usize = 30;
+const MOST_TEXT: usize = 30;
 
 /// Refuses a text that has no byte or more than 30.
 pub fn check_text(text: &[u8]) -> Result<(), MessageFault>

@@ -7,16 +7,16 @@ mod calls;
 
 pub use calls::SpoolLine;
 
-/// A line that keeps its messages in bytes handed to it, in a ring of places of 64 bytes. Its calls write only in these
+/// A line that keeps its messages in bytes handed to it, in a ring of slots of 64 bytes. Its calls write only in these
 /// bytes and never change how many there are; the bytes outside waiting messages may hold anything.
 #[derive(Drop)]
 pub struct Spool<'a> {
     bytes: &'a mut [u8],
-    places: usize,
+    slots: usize,
     first: usize,
     count: usize,
-    ghost room: { 64 * places ≤ length (now bytes) },
-    ghost most: { places ≤ 1024 },
-    ghost filled: { count ≤ places },
-    ghost placed: { (0 < places → first < places) },
+    ghost room: { 64 * slots ≤ length (now bytes) },
+    ghost most: { slots ≤ 1024 },
+    ghost filled: { count ≤ slots },
+    ghost within: { (0 < slots → first < slots) },
 }

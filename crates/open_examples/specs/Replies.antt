@@ -6,14 +6,8 @@ use Rattle.open_queries.specs.declared.fault.OpenFault.{OpenFault}
 use Rattle.open_queries.specs.declared.fault.OpenFault.the-variants.{NotOpen}
 use Rattle.open_queries.specs.Table.{Status, absent, open-by, in-hand-by}
 
--- Both name the set that put the query.
+-- Both name the set that asked.
 abbrev pub reply-answer : Status → Result ℕ OpenFault
 reply-answer absent = Err NotOpen
 reply-answer (open-by n) = Ok n
 reply-answer (in-hand-by n) = Err NotOpen
-
--- A reply closes the query; a lost one leaves it open.
-abbrev pub replied : Status → Status
-replied absent = absent
-replied (open-by n) = absent
-replied (in-hand-by n) = in-hand-by n

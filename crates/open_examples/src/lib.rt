@@ -1,16 +1,21 @@
 //! The open queries in use, from their contracts alone.
 ghost use mathlib.Core.Path.{_≡_};
-ghost use Prim.Native.Nat.{ℕ};
-ghost use Rattle.open_queries.specs.View.{status-of};
-ghost use Rattle.open_queries.specs.Calls.{at-serial};
-ghost use Rattle.open_examples.specs.Replies.{reply-answer, replied};
+ghost use mathlib.Core.Bool.{false};
+ghost use Rattle.std.specs.Results.{isOk};
+ghost use Prim.Native.Nat.{ℕ, _+_};
+ghost use Rattle.open_queries.specs.View.{status-of, standing, next-of};
+ghost use Rattle.open_queries.specs.Calls.{at-serial, accepted, given-up};
+ghost use Rattle.open_examples.specs.Replies.{reply-answer};
 use open_queries::OpenFault;
 use open_queries::OpenQueries;
 
 /// A reply: collects the query and hands it over.
 pub fn reply(queries: &mut OpenQueries, serial: u32) -> Result<u16, OpenFault>
     ensures answer { λ r. ⌜ r ≡ reply-answer (status-of (now (queries .entry)) serial) ⌝ }
-    ensures after { λ _. ⌜ ((s : ℕ) → status-of (now (queries .exit)) s ≡ at-serial serial replied (status-of (now (queries .entry))) s) ⌝ }
+    ensures after { λ _. ⌜ ((s : ℕ) → status-of (now (queries .exit)) s ≡ at-serial serial given-up (status-of (now (queries .entry))) s) ⌝ }
+    ensures count { λ r. ⌜ standing (now (queries .exit)) + accepted r ≡ standing (now (queries .entry)) ⌝ }
+    ensures next { λ _. ⌜ next-of (now (queries .exit)) ≡ next-of (now (queries .entry)) ⌝ }
+    ensures refused { λ r. ⌜ (isOk r ≡ false → now (queries .exit) ≡ now (queries .entry)) ⌝ }
 {
     let handover = queries.collect(serial)?;
     queries.hand_over(handover)
@@ -20,6 +25,9 @@ pub fn reply(queries: &mut OpenQueries, serial: u32) -> Result<u16, OpenFault>
 pub fn lost_reply(queries: &mut OpenQueries, serial: u32) -> Result<u16, OpenFault>
     ensures answer { λ r. ⌜ r ≡ reply-answer (status-of (now (queries .entry)) serial) ⌝ }
     ensures after { λ _. ⌜ ((s : ℕ) → status-of (now (queries .exit)) s ≡ status-of (now (queries .entry)) s) ⌝ }
+    ensures count { λ _. ⌜ standing (now (queries .exit)) ≡ standing (now (queries .entry)) ⌝ }
+    ensures next { λ _. ⌜ next-of (now (queries .exit)) ≡ next-of (now (queries .entry)) ⌝ }
+    ensures refused { λ r. ⌜ (isOk r ≡ false → now (queries .exit) ≡ now (queries .entry)) ⌝ }
 {
     let handover = queries.collect(serial)?;
     queries.put_back(handover)
@@ -41,7 +49,7 @@ mod tests {
         for i in 0..64u32 {
             check_eq(queries.add(7), Ok(5 + i))?;
         }
-        check_eq(queries.next(), Err(OpenFault::TooMany))?;
+        check_eq(queries.next_serial(), Err(OpenFault::TooMany))?;
         check_eq(queries.add(7), Err(OpenFault::TooMany))?;
         check_eq(reply(&mut queries, 40), Ok(7))?;
         check_eq(queries.add(8), Ok(69))?;
@@ -51,9 +59,9 @@ mod tests {
     #[test]
     fn the_last_serial_is_given() -> Result<(), Fail> {
         let mut queries = OpenQueries::new(4_294_967_295);
-        check_eq(queries.next(), Ok(4_294_967_295))?;
+        check_eq(queries.next_serial(), Ok(4_294_967_295))?;
         check_eq(queries.add(1), Ok(4_294_967_295))?;
-        check_eq(queries.next(), Err(OpenFault::LastSerial))?;
+        check_eq(queries.next_serial(), Err(OpenFault::LastSerial))?;
         check_eq(queries.add(1), Err(OpenFault::LastSerial))
     }
 
@@ -81,13 +89,9 @@ mod tests {
         let mut there = OpenQueries::new(1);
         check_eq(here.add(3), Ok(1))?;
         check_eq(there.add(4), Ok(1))?;
-        match there.collect(1) {
-            Ok(handover) => check_eq(here.hand_over(handover), Err(OpenFault::NotInHand))?,
-            Err(e) => return check_eq(e, OpenFault::TooMany),
-        }
-        match here.collect(1) {
-            Ok(handover) => check_eq(there.hand_over(handover), Ok(4)),
-            Err(e) => check_eq(e, OpenFault::TooMany),
-        }
+        let theirs = there.collect(1)?;
+        check_eq(here.hand_over(theirs), Err(OpenFault::NotInHand))?;
+        let ours = here.collect(1)?;
+        check_eq(there.hand_over(ours), Ok(4))
     }
 }

@@ -1,20 +1,20 @@
 -- The answer of each call, and what stands under its serial then.
-use Prim.Native.Nat.{ℕ, max}
+use Prim.Native.Nat.{ℕ, max, _<_}
+use mathlib.Core.Path.{_≡_}
+use mathlib.Core.List.{List}
+use lib.ListN.{length, getD}
 use mathlib.Core.Bool.{false, cond}
 use lib.Dec.{leb, eqb}
-use Rattle.std.specs.declared.option.Option.{Option}
-use Rattle.std.specs.declared.option.Option.the-variants.{Some, None}
 use Rattle.std.specs.declared.result.Result.{Result}
 use Rattle.std.specs.declared.result.Result.the-variants.{Ok, Err}
 use Rattle.refusals.specs.declared.Part.the-variants as part
 use Rattle.refusals.specs.declared.Refusal.{Refusal}
 use Rattle.refusals.specs.Words.{refusal}
-use Rattle.open_queries.specs.declared.entry.Stage.{Stage}
-use Rattle.open_queries.specs.declared.entry.Stage.the-variants.{Free, Open, InHand}
 use Rattle.open_queries.specs.declared.fault.OpenFault.{OpenFault}
 use Rattle.open_queries.specs.declared.fault.OpenFault.the-variants.{TooMany, LastSerial, NotOpen, NotInHand}
 use Rattle.open_queries.specs.declared.handover.Handover.{Handover}
-use Rattle.open_queries.specs.Table.{Status, absent, open-by, in-hand-by, staged}
+use Rattle.open_queries.specs.declared.entry.Entry.{Entry}
+use Rattle.open_queries.specs.Table.{Status, absent, open-by, in-hand-by, used, in-use, free-entry}
 
 abbrev pub open-refusal : OpenFault → Refusal
 open-refusal TooMany = refusal 24 part.Open
@@ -41,7 +41,7 @@ collected absent = absent
 collected (open-by n) = in-hand-by n
 collected (in-hand-by n) = in-hand-by n
 
--- Hand over: a query in hand is closed. Put back: it is open again. Both tell the set that put it.
+-- Hand over: a query in hand is closed. Put back: it is open again. Both tell the set that asked.
 abbrev pub return-answer : Status → Result ℕ OpenFault
 return-answer absent = Err NotInHand
 return-answer (open-by n) = Err NotInHand
@@ -80,3 +80,11 @@ added (Err _) set before = before
 abbrev pub accepted : {A : Type 0} → Result A OpenFault → ℕ
 accepted (Ok _) = 1
 accepted (Err _) = 0
+
+-- A free entry of the table and the next serial, or the refusal of a new query.
+abbrev pub Vacancy : List Entry → ℕ → Result (ℕ × ℕ) OpenFault → Type 0
+Vacancy entries next (Ok p) =
+    (p .0 < length entries)
+    × (used (getD entries (p .0) free-entry .stage) ≡ 0)
+    × (add-answer (in-use entries) next ≡ Ok (p .1))
+Vacancy entries next (Err e) = add-answer (in-use entries) next ≡ Err e

@@ -17,7 +17,7 @@ in-stage InHand absent = false
 in-stage InHand (open-by n) = false
 in-stage InHand (in-hand-by n) = true
 
--- The set that put the query that stands.
+-- The set that asked.
 abbrev pub asker : Status → ℕ
 asker absent = 0
 asker (open-by n) = n

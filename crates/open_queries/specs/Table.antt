@@ -8,7 +8,7 @@ use Rattle.open_queries.specs.declared.entry.Stage.the-variants.{Free, Open, I
 use Rattle.open_queries.specs.declared.entry.Entry.{Entry}
 
 -- What stands under a serial: nothing, an open query, or one in hand, which was collected and is not yet handed over or put
--- back; a query with the set that put it.
+-- back; a query with the set that asked.
 pub data Status : Type 0 where
   absent : Status
   open-by : ℕ → Status

@@ -12,5 +12,5 @@ abbrev pub standing : OpenQueries → ℕ
 standing q = in-use (q .entries)
 
 -- The serial that the next accepted query gets; 4,294,967,296 where the last was given.
-abbrev pub next-serial : OpenQueries → ℕ
-next-serial q = q .next
+abbrev pub next-of : OpenQueries → ℕ
+next-of q = q .next

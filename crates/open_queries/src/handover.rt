@@ -2,7 +2,7 @@
 ghost use mathlib.Core.Path.{_≡_};
 ghost use mathlib.Core.Bool.{true};
 
-/// The token of a collected query, with its serial and the set that put it. It has to be ended by handing over or putting
+/// The token of a collected query, with its serial and the set that asked. It has to be ended by handing over or putting
 /// back: its drop is allowed only when it is spent, and only those two calls spend it. They take it by value, so that it
 /// cannot be spent twice.
 pub struct Handover {

@@ -5,7 +5,7 @@ use Rattle.std.specs.declared.option.Option.the-variants.{Some}
 use Rattle.std.proofs.shelf.Tests.{lt-ltb}
 use Rattle.curve.specs.declared.Cell.{Cell}
 use Rattle.curve.specs.Hilbert.{key-of, cell-of}
-use Rattle.curve.specs.Grid.{grid-key, Stands}
+use Rattle.curve.specs.Grid.{grid-key, AtKey}
 use Rattle.curve.proofs.Orders.{curve-laws}
 use Rattle.curve.proofs.cell_at.Needs as need
 
@@ -19,5 +19,5 @@ returns c =
     simp (lt-ltb _ 4096 (w .x-below), lt-ltb _ 4096 (w .y-below)) (ap Some (curve-laws 12 .key-of-cell k (c .pre))) in
     record {
       value = simp (lt-ltb k 16777216 (c .pre)) (ap Some e);
-      back = subst⁻¹ (Stands k) e (record { has-key = g; next-beside = curve-laws 12 .steps-beside k });
+      back = subst⁻¹ (AtKey k) e (record { has-key = g; next-beside = curve-laws 12 .steps-beside k });
     }

@@ -15,5 +15,5 @@ padded-tells w a b e = append-cancel-right a b (replicate (24 - w) 0) (cc)
 
 pub returns : need.returns
 returns g c = λ h e.
-    g .P·PlaceKind·met .lawful .bytes-tell (c .args .a) (c .args .b) h
+    g .P·PlaceKind·met .lawful .bytes-injective (c .args .a) (c .args .b) h
     (padded-tells (g .P·PlaceKind .model .width) _ _ (simp (le-leb (g .P·PlaceKind .model .width) 24 h) at e))
