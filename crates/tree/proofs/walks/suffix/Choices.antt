@@ -1,0 +1,12 @@
+use lib.ListN.{drop}
+use Rattle.tree.specs.Slots.{at, countOf}
+use Rattle.tree.proofs.Loops.{SpanWays}
+use Rattle.tree.proofs.walks.suffix.Given as given
+
+abbrev pub Inv-loop-slot : given.InvT-loop-slot
+Inv-loop-slot g l =
+    SpanWays (g .P·PlaceKind .model) drop (l .nodes) (l .root) (l .slot) (l .first) (l .skip) (l .entry .joined)
+    (l .joined)
+
+abbrev pub μ-loop-slot : given.MeasureT-loop-slot
+μ-loop-slot g l = countOf (at (l .nodes) (l .slot))
