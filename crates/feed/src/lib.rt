@@ -98,20 +98,20 @@ fn place_kind(number: u16) -> Result<Heading, ReadFault>
 pub fn read_heading(bytes: &[u8]) -> Result<Heading, ReadFault>
     ensures { λ r. ⌜ r ≡ heading-of (now (bytes .entry)) ⌝ }
 {
-    let [l0, l1, k0, k1, rest @ ..] = bytes else {
+    let [length_low, length_high, kind_low, kind_high, rest @ ..] = bytes else {
         return Err(ReadFault::Cut);
     };
-    let length = word(*l0, *l1) as usize;
+    let length = word(*length_low, *length_high) as usize;
     if length < 4 || bytes.len() < length {
         return Err(ReadFault::Cut);
     }
-    if word(*k0, *k1) != 0 {
+    if word(*kind_low, *kind_high) != 0 {
         return Err(ReadFault::WrongKind);
     }
-    let [p0, p1] = &rest[0..length - 4] else {
+    let [low, high] = &rest[0..length - 4] else {
         return Err(ReadFault::WrongLength);
     };
-    place_kind(word(*p0, *p1))
+    place_kind(word(*low, *high))
 }
 
 /// The line that is printed for the first record of a feed.
