@@ -9,12 +9,12 @@ use lib.Dec.{ltb, eqb}
 use Rattle.std.proofs.shelf.Ways.{tells}
 use Rattle.kinds.specs.Rules.{Model}
 use Rattle.buckets.specs.Rows.{entry}
-use Rattle.tree.specs.Tree.{Tree, leaf, node, linked, tall, size, rowOf, times, Balanced, Joined}
-use Rattle.tree.specs.Shapes.{rotatedTwice, rotatedRight, rotatedLeft, evened}
+use Rattle.tree.specs.Tree.{Tree, leaf, node, linked, tall, size, row-of, times, Balanced, Joined}
+use Rattle.tree.specs.Shapes.{rotated-twice, rotated-right, rotated-left, evened}
 
 -- What a rotation keeps: the row, how often a slot stands there, and how many there are.
 pub record Same {P R : Type 0} (t : Tree P R) (l : Tree P R) (s : ℕ) (p : P) (r : Tree P R) : Type 0 where
-  pub rows : rowOf t ≡ rowOf l ++ (entry s p ∷ rowOf r)
+  pub rows : row-of t ≡ row-of l ++ (entry s p ∷ row-of r)
   pub slots : (j : ℕ) → times j t ≡ times j l + cond (eqb j s) 1 0 + times j r
   pub sizes : size t ≡ 1 + size l + size r
 
@@ -27,32 +27,32 @@ pub record Evened {P R : Type 0} (t : Tree P R) (l r : Tree P R) : Type 0 where
 
 module _ {P R : Type 0} (m : Model P R) where
   twice-right : (a : Tree P R) (s : ℕ) (p : P) (v : R) (b : Tree P R) (k : ℕ) (q : P) (c : Tree P R)
-      → Same (rotatedTwice m a s p b k q c) (node a s p v b) k q c
+      → Same (rotated-twice m a s p b k q c) (node a s p v b) k q c
   twice-right a s p v leaf k q c = record { rows = simp append-assoc; slots = λ j. omega arith; sizes = omega arith }
   twice-right a s p v (node d i o w b) k q c =
       record { rows = simp append-assoc; slots = λ j. omega arith; sizes = omega arith }
 
   twice-left : (a : Tree P R) (s : ℕ) (p : P) (b : Tree P R) (k : ℕ) (q : P) (v : R) (c : Tree P R)
-      → Same (rotatedTwice m a s p b k q c) a s p (node b k q v c)
+      → Same (rotated-twice m a s p b k q c) a s p (node b k q v c)
   twice-left a s p leaf k q v c = record { rows = refl; slots = λ j. omega arith; sizes = omega arith }
   twice-left a s p (node d i o w b) k q v c =
       record { rows = simp append-assoc; slots = λ j. omega arith; sizes = omega arith }
 
-  same-rotatedRight : (l : Tree P R) (k : ℕ) (q : P) (c : Tree P R) → Same (rotatedRight m l k q c) l k q c
-  same-rotatedRight leaf k q c = record { rows = refl; slots = λ j. refl; sizes = refl }
-  same-rotatedRight (node a s p v b) k q c = go (ltb (tall a) (tall b))
+  same-rotated-right : (l : Tree P R) (k : ℕ) (q : P) (c : Tree P R) → Same (rotated-right m l k q c) l k q c
+  same-rotated-right leaf k q c = record { rows = refl; slots = λ j. refl; sizes = refl }
+  same-rotated-right (node a s p v b) k q c = go (ltb (tall a) (tall b))
     where
       go : (t : Bool)
-          → Same (cond t (rotatedTwice m a s p b k q c) (linked m a s p (linked m b k q c))) (node a s p v b) k q c
+          → Same (cond t (rotated-twice m a s p b k q c) (linked m a s p (linked m b k q c))) (node a s p v b) k q c
       go true = twice-right a s p v b k q c
       go false = record { rows = simp append-assoc; slots = λ j. omega arith; sizes = omega arith }
 
-  same-rotatedLeft : (a : Tree P R) (s : ℕ) (p : P) (r : Tree P R) → Same (rotatedLeft m a s p r) a s p r
-  same-rotatedLeft a s p leaf = record { rows = refl; slots = λ j. refl; sizes = refl }
-  same-rotatedLeft a s p (node b k q v c) = go (ltb (tall c) (tall b))
+  same-rotated-left : (a : Tree P R) (s : ℕ) (p : P) (r : Tree P R) → Same (rotated-left m a s p r) a s p r
+  same-rotated-left a s p leaf = record { rows = refl; slots = λ j. refl; sizes = refl }
+  same-rotated-left a s p (node b k q v c) = go (ltb (tall c) (tall b))
     where
       go : (t : Bool)
-          → Same (cond t (rotatedTwice m a s p b k q c) (linked m (linked m a s p b) k q c)) a s p (node b k q v c)
+          → Same (cond t (rotated-twice m a s p b k q c) (linked m (linked m a s p b) k q c)) a s p (node b k q v c)
       go true = twice-left a s p b k q v c
       go false = record { rows = simp append-assoc; slots = λ j. omega arith; sizes = omega arith }
 
@@ -60,32 +60,32 @@ module _ {P R : Type 0} (m : Model P R) where
   same-even l s p r = go (ltb (1 + tall r) (tall l)) (ltb (1 + tall l) (tall r))
     where
       go : (t u : Bool)
-          → Same (cond t (rotatedRight m l s p r) (cond u (rotatedLeft m l s p r) (linked m l s p r))) l s p r
-      go true u = same-rotatedRight l s p r
-      go false true = same-rotatedLeft l s p r
+          → Same (cond t (rotated-right m l s p r) (cond u (rotated-left m l s p r) (linked m l s p r))) l s p r
+      go true u = same-rotated-right l s p r
+      go false true = same-rotated-left l s p r
       go false false = record { rows = refl; slots = λ j. refl; sizes = refl }
 
   -- The regions stored stay right.
   joined-twice : (a : Tree P R) (s : ℕ) (p : P) (b : Tree P R) (k : ℕ) (q : P) (c : Tree P R) → Joined m a → Joined m b
-      → Joined m c → Joined m (rotatedTwice m a s p b k q c)
+      → Joined m c → Joined m (rotated-twice m a s p b k q c)
   joined-twice a s p leaf k q c x y z = (x, (tt, z, refl), refl)
   joined-twice a s p (node d i o w b) k q c x y z = ((x, y .0, refl), (y .1, z, refl), refl)
 
-  joined-rotatedRight : (l : Tree P R) (k : ℕ) (q : P) (c : Tree P R) → Joined m l → Joined m c
-      → Joined m (rotatedRight m l k q c)
-  joined-rotatedRight leaf k q c x z = (tt, z, refl)
-  joined-rotatedRight (node a s p v b) k q c x z = go (ltb (tall a) (tall b))
+  joined-rotated-right : (l : Tree P R) (k : ℕ) (q : P) (c : Tree P R) → Joined m l → Joined m c
+      → Joined m (rotated-right m l k q c)
+  joined-rotated-right leaf k q c x z = (tt, z, refl)
+  joined-rotated-right (node a s p v b) k q c x z = go (ltb (tall a) (tall b))
     where
-      go : (t : Bool) → Joined m (cond t (rotatedTwice m a s p b k q c) (linked m a s p (linked m b k q c)))
+      go : (t : Bool) → Joined m (cond t (rotated-twice m a s p b k q c) (linked m a s p (linked m b k q c)))
       go true = joined-twice a s p b k q c (x .0) (x .1) z
       go false = (x .0, (x .1, z, refl), refl)
 
-  joined-rotatedLeft : (a : Tree P R) (s : ℕ) (p : P) (r : Tree P R) → Joined m a → Joined m r
-      → Joined m (rotatedLeft m a s p r)
-  joined-rotatedLeft a s p leaf x z = (x, tt, refl)
-  joined-rotatedLeft a s p (node b k q v c) x z = go (ltb (tall c) (tall b))
+  joined-rotated-left : (a : Tree P R) (s : ℕ) (p : P) (r : Tree P R) → Joined m a → Joined m r
+      → Joined m (rotated-left m a s p r)
+  joined-rotated-left a s p leaf x z = (x, tt, refl)
+  joined-rotated-left a s p (node b k q v c) x z = go (ltb (tall c) (tall b))
     where
-      go : (t : Bool) → Joined m (cond t (rotatedTwice m a s p b k q c) (linked m (linked m a s p b) k q c))
+      go : (t : Bool) → Joined m (cond t (rotated-twice m a s p b k q c) (linked m (linked m a s p b) k q c))
       go true = joined-twice a s p b k q c x (z .0) (z .1)
       go false = ((x, z .0, refl), z .1, refl)
 
@@ -93,15 +93,15 @@ module _ {P R : Type 0} (m : Model P R) where
       → Joined m (evened m l s p r)
   joined-even l s p r x z = go (ltb (1 + tall r) (tall l)) (ltb (1 + tall l) (tall r))
     where
-      go : (t u : Bool) → Joined m (cond t (rotatedRight m l s p r) (cond u (rotatedLeft m l s p r) (linked m l s p r)))
-      go true u = joined-rotatedRight l s p r x z
-      go false true = joined-rotatedLeft l s p r x z
+      go : (t u : Bool) → Joined m (cond t (rotated-right m l s p r) (cond u (rotated-left m l s p r) (linked m l s p r)))
+      go true u = joined-rotated-right l s p r x z
+      go false true = joined-rotated-left l s p r x z
       go false false = (x, z, refl)
 
   -- The middle tree is one level higher than its two neighbours.
   twice-tall : (a : Tree P R) (s : ℕ) (p : P) (b : Tree P R) (k : ℕ) (q : P) (c : Tree P R) → Balanced a → Balanced b
       → Balanced c → tall b ≡ 1 + tall a → tall b ≡ 1 + tall c
-      → Balanced (rotatedTwice m a s p b k q c) × (tall (rotatedTwice m a s p b k q c) ≡ 1 + tall b)
+      → Balanced (rotated-twice m a s p b k q c) × (tall (rotated-twice m a s p b k q c) ≡ 1 + tall b)
   twice-tall a s p leaf k q c ha hb hc ta tc = absurd (omega arith)
   twice-tall a s p (node d i o v b) k q c ha hb hc ta tc = (
     ((ha, hb .0, omega arith, omega arith), (hb .1, hc, omega arith, omega arith), omega arith, omega arith),
@@ -109,13 +109,13 @@ module _ {P R : Type 0} (m : Model P R) where
         arith,
   )
 
-  rotatedRight-tall : (l : Tree P R) (s : ℕ) (p : P) (r : Tree P R) → Balanced l → Balanced r → tall l ≡ 2 + tall r
-      → Evened (rotatedRight m l s p r) l r
-  rotatedRight-tall leaf s p r hl hr two = absurd (omega arith)
-  rotatedRight-tall (node a k q v b) s p r hl hr two = go (ltb (tall a) (tall b)) refl
+  rotated-right-tall : (l : Tree P R) (s : ℕ) (p : P) (r : Tree P R) → Balanced l → Balanced r → tall l ≡ 2 + tall r
+      → Evened (rotated-right m l s p r) l r
+  rotated-right-tall leaf s p r hl hr two = absurd (omega arith)
+  rotated-right-tall (node a k q v b) s p r hl hr two = go (ltb (tall a) (tall b)) refl
     where
       go : (t : Bool) → ltb (tall a) (tall b) ≡ t
-          → Evened (cond t (rotatedTwice m a k q b s p r) (linked m a k q (linked m b s p r))) (node a k q v b) r
+          → Evened (cond t (rotated-twice m a k q b s p r) (linked m a k q (linked m b s p r))) (node a k q v b) r
       go true is =
           let lt : tall a < tall b = grind (arith, tells) in
           let w = twice-tall a k q b s p r (hl .0) (hl .1) hr (omega arith) (omega arith) in
@@ -129,13 +129,13 @@ module _ {P R : Type 0} (m : Model P R) where
             plain = λ x y. omega arith;
           }
 
-  rotatedLeft-tall : (l : Tree P R) (s : ℕ) (p : P) (r : Tree P R) → Balanced l → Balanced r → tall r ≡ 2 + tall l
-      → Evened (rotatedLeft m l s p r) l r
-  rotatedLeft-tall l s p leaf hl hr two = absurd (omega arith)
-  rotatedLeft-tall l s p (node a k q v b) hl hr two = go (ltb (tall b) (tall a)) refl
+  rotated-left-tall : (l : Tree P R) (s : ℕ) (p : P) (r : Tree P R) → Balanced l → Balanced r → tall r ≡ 2 + tall l
+      → Evened (rotated-left m l s p r) l r
+  rotated-left-tall l s p leaf hl hr two = absurd (omega arith)
+  rotated-left-tall l s p (node a k q v b) hl hr two = go (ltb (tall b) (tall a)) refl
     where
       go : (t : Bool) → ltb (tall b) (tall a) ≡ t
-          → Evened (cond t (rotatedTwice m l s p a k q b) (linked m (linked m l s p a) k q b)) l (node a k q v b)
+          → Evened (cond t (rotated-twice m l s p a k q b) (linked m (linked m l s p a) k q b)) l (node a k q v b)
       go true is =
           let lt : tall b < tall a = grind (arith, tells) in
           let w = twice-tall l s p a k q b hl (hr .0) (hr .1) (omega arith) (omega arith) in
@@ -154,9 +154,9 @@ module _ {P R : Type 0} (m : Model P R) where
   even-tall l s p r hl hr nl nr = go (ltb (1 + tall r) (tall l)) refl (ltb (1 + tall l) (tall r)) refl
     where
       go : (t : Bool) → ltb (1 + tall r) (tall l) ≡ t → (u : Bool) → ltb (1 + tall l) (tall r) ≡ u
-          → Evened (cond t (rotatedRight m l s p r) (cond u (rotatedLeft m l s p r) (linked m l s p r))) l r
-      go true is u iu = rotatedRight-tall l s p r hl hr (grind (arith, tells))
-      go false is true iu = rotatedLeft-tall l s p r hl hr (grind (arith, tells))
+          → Evened (cond t (rotated-right m l s p r) (cond u (rotated-left m l s p r) (linked m l s p r))) l r
+      go true is u iu = rotated-right-tall l s p r hl hr (grind (arith, tells))
+      go false is true iu = rotated-left-tall l s p r hl hr (grind (arith, tells))
       go false is false iu =
           record {
             balanced = (hl, hr, grind (arith, tells), grind (arith, tells));

@@ -6,7 +6,7 @@ use native.Mathlib.Omega.{arith}
 use lib.ListN.{length}
 use Rattle.kinds.specs.Rules.{Model}
 use Rattle.tree.specs.declared.node.Node.{Node}
-use Rattle.tree.specs.Slots.{at, countOf}
+use Rattle.tree.specs.Slots.{at, count-of}
 use Rattle.tree.specs.Tree.{Tree, node, size, times, Balanced, Holds}
 use Rattle.tree.specs.Contracted.{one, EvenAt, Done}
 use Rattle.tree.proofs.Held.{at-some, holds-size}
@@ -21,16 +21,16 @@ module _ {P R : Type 0} (m : Model P R) (ns : List (Node P R)) {root : ℕ} {t :
   node-balanced : Balanced (node (o .d) root place (o .v) (o .e))
   node-balanced = subst (λ u. Balanced u) (o .is) b
 
-  pub fewer-left : (x : ℕ) → countOf (at ns root) ≡ x → countOf (at ns to-left) < x
+  pub fewer-left : (x : ℕ) → count-of (at ns root) ≡ x → count-of (at ns to-left) < x
   fewer-left x is =
-      let a = ap (λ j. countOf (at ns j)) (o .left-is) ∙ holds-size ns (o .d) (node-held .1) in
-      let c = ap countOf (node-held .0) in
+      let a = ap (λ j. count-of (at ns j)) (o .left-is) ∙ holds-size ns (o .d) (node-held .1) in
+      let c = ap count-of (node-held .0) in
       omega arith
 
-  pub fewer-right : (x : ℕ) → countOf (at ns root) ≡ x → countOf (at ns to-right) < x
+  pub fewer-right : (x : ℕ) → count-of (at ns root) ≡ x → count-of (at ns to-right) < x
   fewer-right x is =
-      let a = ap (λ j. countOf (at ns j)) (o .right-is) ∙ holds-size ns (o .e) (node-held .2) in
-      let c = ap countOf (node-held .0) in
+      let a = ap (λ j. count-of (at ns j)) (o .right-is) ∙ holds-size ns (o .e) (node-held .2) in
+      let c = ap count-of (node-held .0) in
       omega arith
 
   pub left-replaced : (u : Tree P R) (n₁ : List (Node P R)) (new : ℕ) → Balanced u

@@ -10,9 +10,9 @@ use Rattle.std.specs.Finite.{nth}
 use Rattle.std.specs.declared.option.Option.the-variants.{Some, None}
 use Rattle.kinds.specs.Rules.{Model}
 use Rattle.tree.specs.declared.node.Node.{Node}
-use Rattle.tree.specs.Slots.{at, countOf, idle}
-use Rattle.tree.specs.Tree.{leaf, rowOf}
-use Rattle.tree.specs.Whole.{placeIn, mark, rowIn, ShapeAt, OrderlyAt, Orderly}
+use Rattle.tree.specs.Slots.{at, count-of, idle}
+use Rattle.tree.specs.Tree.{leaf, row-of}
+use Rattle.tree.specs.Whole.{place-in, mark, row-in, ShapeAt, OrderlyAt, Orderly}
 use Rattle.tree.proofs.Held.{nth-set-other, at-other, at-same}
 use Rattle.tree.proofs.Shape.{mark-high, mark-past, shape-tree}
 use Rattle.tree.proofs.Presence.{view-row}
@@ -24,7 +24,7 @@ nth-in (x ∷ xs) (suc i) lt = nth-in xs i (omega arith)
 
 -- The slots below i are not in use, and no other was written.
 pub record Cleared {P R : Type 0} (old new : List (Node P R)) (i : ℕ) : Type 0 where
-  pub off : (j : ℕ) → j < i → countOf (at new j) ≡ 0
+  pub off : (j : ℕ) → j < i → count-of (at new j) ≡ 0
   pub same : (j : ℕ) → (0 < j → i ≤ j) → nth new j ≡ nth old j
 
 module _ {P R : Type 0} where
@@ -40,8 +40,8 @@ module _ {P R : Type 0} where
       let is : ms ≡ set ns i x = f (w .0) (w .1) in
       subst (λ n. Cleared old n (i + 1)) (sym is) (record {
         off = λ j h. elim (ℕ-discrete j i) [
-          | yes e ↦ ap (λ k. countOf (at (set ns i x) k)) e ∙ ap countOf (at-same ns i x pos lt)
-          | no e ↦ ap countOf (at-other ns i j x (λ k. e (sym k))) ∙ c .off j (omega arith)
+          | yes e ↦ ap (λ k. count-of (at (set ns i x) k)) e ∙ ap count-of (at-same ns i x pos lt)
+          | no e ↦ ap count-of (at-other ns i j x (λ k. e (sym k))) ∙ c .off j (omega arith)
         ];
         same = λ j h. nth-set-other ns i j x (λ k. absurd (omega (arith, h (omega arith))))
             ∙ c .same j (λ p. omega (arith, h p));
@@ -61,17 +61,17 @@ module _ {P R : Type 0} where
           ];
         }
       where
-        unmarked : (j : ℕ) → countOf (at ns j) ≡ 0 → mark ns j ≡ 0
+        unmarked : (j : ℕ) → count-of (at ns j) ≡ 0 → mark ns j ≡ 0
         unmarked j z = grind (arith, tells)
 
-    pub clear-view : (j : ℕ) → placeIn ns j ≡ None
+    pub clear-view : (j : ℕ) → place-in ns j ≡ None
     clear-view j = view-row ns 0 leaf clear-shape j
 
-    pub clear-order : (m : Model P R) → Orderly m ns 0 × (rowIn ns 0 ≡ [])
+    pub clear-order : (m : Model P R) → Orderly m ns 0 × (row-in ns 0 ≡ [])
     clear-order m =
         let e = shape-tree ns 0 leaf clear-shape in
         let o : OrderlyAt m leaf = record { sorted = tt; admitted = λ e i. elim i [ ]; joined = tt } in
-        (subst (OrderlyAt m) (sym e) o, ap rowOf e)
+        (subst (OrderlyAt m) (sym e) o, ap row-of e)
 
 pub both-empty : {X : Type 0} (xs ys : List X) (j : ℕ) → length xs ≡ 0 → length ys ≡ 0 → nth xs j ≡ nth ys j
 both-empty [] [] j a b = refl

@@ -13,12 +13,12 @@ use Rattle.std.specs.declared.option.Option.{Option}
 use Rattle.std.specs.declared.option.Option.the-variants.{Some}
 use Rattle.kinds.specs.Rules.{Model, Admitted}
 use Rattle.tree.specs.declared.node.Node.{Node}
-use Rattle.tree.specs.Tree.{Tree, leaf, node, rowOf, times}
+use Rattle.tree.specs.Tree.{Tree, leaf, node, row-of, times}
 use Rattle.tree.specs.Shapes.{evened, grown}
 use Rattle.tree.specs.Contracted.{one, GrowAt, Done}
 use Rattle.tree.specs.Rows.{often, find}
 use Rattle.buckets.specs.Rows.{Entry, entry, ahead, inserted, Sorted, AllAdmitted, AheadLaws}
-use Rattle.tree.specs.Whole.{capacity, inUse, placeIn, rowIn, ShapeAt, OrderlyAt, Orderly}
+use Rattle.tree.specs.Whole.{capacity, in-use, place-in, row-in, ShapeAt, OrderlyAt, Orderly}
 use Rattle.tree.proofs.Held.{at-nth}
 use Rattle.tree.proofs.Balance.{same-even, low}
 use Rattle.tree.proofs.Growing.{larger, joined-grown}
@@ -37,7 +37,7 @@ apart-new j s f h z = go (ℕ-discrete j s)
 
 module _ {P R : Type 0} (m : Model P R) where
   -- A tree may grow by a slot that is not in use.
-  pub shape-grow : (ns : List (Node P R)) (root s : ℕ) (t : Tree P R) → ShapeAt ns root t → inUse ns s ≡ false → 0 < s
+  pub shape-grow : (ns : List (Node P R)) (root s : ℕ) (t : Tree P R) → ShapeAt ns root t → in-use ns s ≡ false → 0 < s
       → s ≤ capacity ns → GrowAt ns s root t
   shape-grow ns root s t y off pos le =
       let z : times s t ≡ 0 = y .marked s ∙ unused-mark ns s off in
@@ -71,7 +71,7 @@ module _ {P R : Type 0} (m : Model P R) where
       }
 
   find-grown : (p : P) (s : ℕ) (t : Tree P R) → times s t ≡ 0 → (j : ℕ)
-      → find j (rowOf (grown m p s t)) ≡ cond (eqb j s) (Some p) (find j (rowOf t))
+      → find j (row-of (grown m p s t)) ≡ cond (eqb j s) (Some p) (find j (row-of t))
   find-grown p s leaf z j = refl
   find-grown p s (node l k q v r) z j =
       go (ahead m (entry s p) (entry k q)) (find-grown p s l (omega arith) j) (find-grown p s r (omega arith) j)
@@ -79,69 +79,69 @@ module _ {P R : Type 0} (m : Model P R) where
       f : Entry P
       f = entry k q
 
-      old : find j (rowOf l ++ (entry k q ∷ rowOf r)) ≡ alt (find j (rowOf l))
-          (cond (eqb j k) (Some q) (find j (rowOf r)))
-      old = find-append j (rowOf l) (entry k q ∷ rowOf r)
+      old : find j (row-of l ++ (entry k q ∷ row-of r)) ≡ alt (find j (row-of l))
+          (cond (eqb j k) (Some q) (find j (row-of r)))
+      old = find-append j (row-of l) (entry k q ∷ row-of r)
 
-      goes : (b : Bool) → eqb j s ≡ b → find j (rowOf (grown m p s r)) ≡ cond (eqb j s) (Some p) (find j (rowOf r))
-          → alt (find j (rowOf l)) (cond (eqb j k) (Some q) (find j (rowOf (grown m p s r)))) ≡ cond b (Some p)
-          (alt (find j (rowOf l)) (cond (eqb j k) (Some q) (find j (rowOf r))))
+      goes : (b : Bool) → eqb j s ≡ b → find j (row-of (grown m p s r)) ≡ cond (eqb j s) (Some p) (find j (row-of r))
+          → alt (find j (row-of l)) (cond (eqb j k) (Some q) (find j (row-of (grown m p s r)))) ≡ cond b (Some p)
+          (alt (find j (row-of l)) (cond (eqb j k) (Some q) (find j (row-of r))))
       goes true is y =
           let e : j ≡ s = grind (arith, tells) in
           let zl : times j l ≡ 0 = ap (λ i. times i l) e ∙ omega arith in
           let test : eqb j k ≡ false = grind (arith, tells) in
-          ap₂ (λ o b. alt o (cond b (Some q) (find j (rowOf (grown m p s r)))))
-          (find-none j (rowOf l) (often-row j l ∙ zl)) test
-          ∙ y ∙ ap (λ b. cond b (Some p) (find j (rowOf r))) is
+          ap₂ (λ o b. alt o (cond b (Some q) (find j (row-of (grown m p s r)))))
+          (find-none j (row-of l) (often-row j l ∙ zl)) test
+          ∙ y ∙ ap (λ b. cond b (Some p) (find j (row-of r))) is
       goes false is y =
-          ap (λ o. alt (find j (rowOf l)) (cond (eqb j k) (Some q) o))
-          (y ∙ ap (λ b. cond b (Some p) (find j (rowOf r))) is)
+          ap (λ o. alt (find j (row-of l)) (cond (eqb j k) (Some q) o))
+          (y ∙ ap (λ b. cond b (Some p) (find j (row-of r))) is)
 
       left : (b : Bool) → (X Y : Option P) → alt (cond b (Some p) X) Y ≡ cond b (Some p) (alt X Y)
       left true X Y = refl
       left false X Y = refl
 
-      go : (b : Bool) → find j (rowOf (grown m p s l)) ≡ cond (eqb j s) (Some p) (find j (rowOf l))
-          → find j (rowOf (grown m p s r)) ≡ cond (eqb j s) (Some p) (find j (rowOf r))
-          → find j (rowOf (cond b (evened m (grown m p s l) k q r) (evened m l k q (grown m p s r)))) ≡ cond (eqb j s)
-          (Some p) (find j (rowOf l ++ (entry k q ∷ rowOf r)))
+      go : (b : Bool) → find j (row-of (grown m p s l)) ≡ cond (eqb j s) (Some p) (find j (row-of l))
+          → find j (row-of (grown m p s r)) ≡ cond (eqb j s) (Some p) (find j (row-of r))
+          → find j (row-of (cond b (evened m (grown m p s l) k q r) (evened m l k q (grown m p s r)))) ≡ cond (eqb j s)
+          (Some p) (find j (row-of l ++ (entry k q ∷ row-of r)))
       go true x y =
           ap (find j) (same-even m (grown m p s l) k q r .rows)
-          ∙ find-append j (rowOf (grown m p s l)) (entry k q ∷ rowOf r)
-          ∙ ap (λ o. alt o (cond (eqb j k) (Some q) (find j (rowOf r)))) x
-          ∙ left (eqb j s) (find j (rowOf l)) (cond (eqb j k) (Some q) (find j (rowOf r)))
-          ∙ ap (λ o. cond (eqb j s) (Some p) o) (sym (find-append j (rowOf l) (entry k q ∷ rowOf r)))
+          ∙ find-append j (row-of (grown m p s l)) (entry k q ∷ row-of r)
+          ∙ ap (λ o. alt o (cond (eqb j k) (Some q) (find j (row-of r)))) x
+          ∙ left (eqb j s) (find j (row-of l)) (cond (eqb j k) (Some q) (find j (row-of r)))
+          ∙ ap (λ o. cond (eqb j s) (Some p) o) (sym (find-append j (row-of l) (entry k q ∷ row-of r)))
       go false x y =
           ap (find j) (same-even m l k q (grown m p s r) .rows)
-          ∙ find-append j (rowOf l) (entry k q ∷ rowOf (grown m p s r))
+          ∙ find-append j (row-of l) (entry k q ∷ row-of (grown m p s r))
           ∙ goes (eqb j s) refl y
-          ∙ ap (λ o. cond (eqb j s) (Some p) o) (sym (find-append j (rowOf l) (entry k q ∷ rowOf r)))
+          ∙ ap (λ o. cond (eqb j s) (Some p) o) (sym (find-append j (row-of l) (entry k q ∷ row-of r)))
 
   -- What `enter` promises of the view.
   pub view-grown : (ns ms : List (Node P R)) (root res s : ℕ) (p : P) (t : Tree P R) → ShapeAt ns root t
-      → ShapeAt ms res (grown m p s t) → inUse ns s ≡ false → (j : ℕ)
-      → placeIn ms j ≡ cond (eqb j s) (Some p) (placeIn ns j)
+      → ShapeAt ms res (grown m p s t) → in-use ns s ≡ false → (j : ℕ)
+      → place-in ms j ≡ cond (eqb j s) (Some p) (place-in ns j)
   view-grown ns ms root res s p t y z off j =
       view-row ms res (grown m p s t) z j ∙ find-grown p s t (y .marked s ∙ unused-mark ns s off) j
       ∙ ap (λ o. cond (eqb j s) (Some p) o) (sym (view-row ns root t y j))
 
   pub others-kept : (ns ms : List (Node P R)) (res : ℕ) (t : Tree P R) → ShapeAt ms res t → Done ns ms res t → (j : ℕ)
-      → inUse ms j ≡ false → nth ms j ≡ nth ns j
+      → in-use ms j ≡ false → nth ms j ≡ nth ns j
   others-kept ns ms res t z d j off = d .kept j (z .marked j ∙ unused-mark ms j off)
 
   pub order-grown : AheadLaws m → (ns ms : List (Node P R)) (root res s : ℕ) (p : P) (t : Tree P R) → ShapeAt ns root t
-      → ShapeAt ms res (grown m p s t) → inUse ns s ≡ false → Orderly m ns root → Admitted m p
-      → Orderly m ms res × (rowIn ms res ≡ inserted m (entry s p) (rowIn ns root))
+      → ShapeAt ms res (grown m p s t) → in-use ns s ≡ false → Orderly m ns root → Admitted m p
+      → Orderly m ms res × (row-in ms res ≡ inserted m (entry s p) (row-in ns root))
   order-grown laws ns ms root res s p t y z off ord o =
       let et = shape-tree ns root t y in
       let eu = shape-tree ms res (grown m p s t) z in
       let w : OrderlyAt m t = subst (OrderlyAt m) et ord in
       let is = row-grown m laws p s t o (w .admitted) (w .sorted) in
-      let fresh : often s (rowOf t) ≡ 0 = often-row s t ∙ y .marked s ∙ unused-mark ns s off in
+      let fresh : often s (row-of t) ≡ 0 = often-row s t ∙ y .marked s ∙ unused-mark ns s off in
       let u : OrderlyAt m (grown m p s t) = record {
         sorted = subst (Sorted m) (sym is)
-            (sorted-inserted m laws (entry s p) (rowOf t) o (w .admitted) fresh (w .sorted));
-        admitted = subst (AllAdmitted m) (sym is) (admitted-inserted m (entry s p) (rowOf t) o (w .admitted));
+            (sorted-inserted m laws (entry s p) (row-of t) o (w .admitted) fresh (w .sorted));
+        admitted = subst (AllAdmitted m) (sym is) (admitted-inserted m (entry s p) (row-of t) o (w .admitted));
         joined = joined-grown m p s t (w .joined);
       } in
-      (subst (OrderlyAt m) (sym eu) u, ap rowOf eu ∙ is ∙ ap (λ v. inserted m (entry s p) (rowOf v)) (sym et))
+      (subst (OrderlyAt m) (sym eu) u, ap row-of eu ∙ is ∙ ap (λ v. inserted m (entry s p) (row-of v)) (sym et))

@@ -9,8 +9,8 @@ use Rattle.std.specs.Finite.{nth}
 use Rattle.std.proofs.shelf.Ways.{tells}
 use Rattle.kinds.specs.Rules.{Model}
 use Rattle.tree.specs.declared.node.Node.{Node}
-use Rattle.tree.specs.Slots.{at, tallOf, countOf, overOf, made}
-use Rattle.tree.specs.Tree.{Tree, leaf, node, rootOf, tall, size, onto, linked, stored, times, Holds}
+use Rattle.tree.specs.Slots.{at, height-of, count-of, joined-over, made}
+use Rattle.tree.specs.Tree.{Tree, leaf, node, root-of, tall, size, onto, linked, stored, times, Holds}
 
 pub nth-set-other : {X : Type 0} (xs : List X) (i j : ℕ) (x : X) → (i ≡ j → ⊥) → nth (set xs i x) j ≡ nth xs j
 nth-set-other [] i j x ne = refl
@@ -68,26 +68,26 @@ module _ {P R : Type 0} where
     holds-set ns i x r (omega arith) (h .2),
   )
 
-  pub holds-tall : (ns : List (Node P R)) (t : Tree P R) → Holds ns t → tallOf (at ns (rootOf t)) ≡ tall t
+  pub holds-tall : (ns : List (Node P R)) (t : Tree P R) → Holds ns t → height-of (at ns (root-of t)) ≡ tall t
   holds-tall ns leaf h = refl
-  holds-tall ns (node l s p v r) h = ap tallOf (h .0)
+  holds-tall ns (node l s p v r) h = ap height-of (h .0)
 
-  pub holds-size : (ns : List (Node P R)) (t : Tree P R) → Holds ns t → countOf (at ns (rootOf t)) ≡ size t
+  pub holds-size : (ns : List (Node P R)) (t : Tree P R) → Holds ns t → count-of (at ns (root-of t)) ≡ size t
   holds-size ns leaf h = refl
-  holds-size ns (node l s p v r) h = ap countOf (h .0)
+  holds-size ns (node l s p v r) h = ap count-of (h .0)
 
-  pub holds-root : (ns : List (Node P R)) (t : Tree P R) → 0 < length ns → Holds ns t → rootOf t < length ns
+  pub holds-root : (ns : List (Node P R)) (t : Tree P R) → 0 < length ns → Holds ns t → root-of t < length ns
   holds-root ns leaf pos h = pos
   holds-root ns (node l s p v r) pos h = at-some ns s (stored l p v r) (h .0) .1
 
 module _ {P R : Type 0} (m : Model P R) where
   pub holds-onto : (ns : List (Node P R)) (d : R) (t : Tree P R) → Holds ns t
-      → overOf m d (at ns (rootOf t)) ≡ onto m d t
+      → joined-over m d (at ns (root-of t)) ≡ onto m d t
   holds-onto ns d leaf h = refl
-  holds-onto ns d (node l s p v r) h = ap (overOf m d) (h .0)
+  holds-onto ns d (node l s p v r) h = ap (joined-over m d) (h .0)
 
   pub made-stored : (ns : List (Node P R)) (l : Tree P R) (p : P) (r : Tree P R) → Holds ns l → Holds ns r
-      → made m ns p (rootOf l) (rootOf r) ≡ stored l p (onto m (onto m (m .single p) l) r) r
+      → made m ns p (root-of l) (root-of r) ≡ stored l p (onto m (onto m (m .single p) l) r) r
   made-stored ns l p r hl hr =
       let tl = holds-tall ns l hl in
       let tr = holds-tall ns r hr in
@@ -95,13 +95,13 @@ module _ {P R : Type 0} (m : Model P R) where
       let sr = holds-size ns r hr in
       let jl = holds-onto ns (m .single p) l hl in
       let jr = holds-onto ns (onto m (m .single p) l) r hr in
-      let jj : overOf m (overOf m (m .single p) (at ns (rootOf l))) (at ns (rootOf r)) ≡ onto m (onto m (m .single p) l)
-      r = ap (λ d. overOf m d (at ns (rootOf r))) jl ∙ jr in
+      let jj : joined-over m (joined-over m (m .single p) (at ns (root-of l))) (at ns (root-of r)) ≡ onto m (onto m (m .single p) l)
+      r = ap (λ d. joined-over m d (at ns (root-of r))) jl ∙ jr in
       cc
 
   pub holds-link : (ns : List (Node P R)) (l : Tree P R) (s : ℕ) (p : P) (r : Tree P R) → 0 < s → s < length ns
       → times s l ≡ 0 → times s r ≡ 0 → Holds ns l → Holds ns r
-      → Holds (set ns s (made m ns p (rootOf l) (rootOf r))) (linked m l s p r)
+      → Holds (set ns s (made m ns p (root-of l) (root-of r))) (linked m l s p r)
   holds-link ns l s p r pos lt al ar hl hr = (
     at-same ns s _ pos lt
         ∙ ap (λ n. Some n) (made-stored ns l p r hl hr),
@@ -110,19 +110,19 @@ module _ {P R : Type 0} (m : Model P R) where
   )
 
 module _ {P R : Type 0} where
-  pub height-is : (ns : List (Node P R)) (i h : ℕ) (t : Tree P R) → i ≡ rootOf t → h ≡ tallOf (at ns i) → Holds ns t
+  pub height-is : (ns : List (Node P R)) (i h : ℕ) (t : Tree P R) → i ≡ root-of t → h ≡ height-of (at ns i) → Holds ns t
       → h ≡ tall t
-  height-is ns i h t is read held = read ∙ ap (λ j. tallOf (at ns j)) is ∙ holds-tall ns t held
+  height-is ns i h t is read held = read ∙ ap (λ j. height-of (at ns j)) is ∙ holds-tall ns t held
 
-  pub count-is : (ns : List (Node P R)) (i h : ℕ) (t : Tree P R) → i ≡ rootOf t → h ≡ countOf (at ns i) → Holds ns t
+  pub count-is : (ns : List (Node P R)) (i h : ℕ) (t : Tree P R) → i ≡ root-of t → h ≡ count-of (at ns i) → Holds ns t
       → h ≡ size t
-  count-is ns i h t is read held = read ∙ ap (λ j. countOf (at ns j)) is ∙ holds-size ns t held
+  count-is ns i h t is read held = read ∙ ap (λ j. count-of (at ns j)) is ∙ holds-size ns t held
 
-  pub root-in : (ns : List (Node P R)) (i : ℕ) (t : Tree P R) → i ≡ rootOf t → 0 < length ns → Holds ns t
+  pub root-in : (ns : List (Node P R)) (i : ℕ) (t : Tree P R) → i ≡ root-of t → 0 < length ns → Holds ns t
       → i < length ns
   root-in ns i t is pos held = rw is (holds-root ns t pos held)
 
   -- A tree that is not empty has a root.
-  pub tall-root : (t : Tree P R) (ns : List (Node P R)) (i : ℕ) → i ≡ rootOf t → Holds ns t → 0 < tall t → 0 < i
+  pub tall-root : (t : Tree P R) (ns : List (Node P R)) (i : ℕ) → i ≡ root-of t → Holds ns t → 0 < tall t → 0 < i
   tall-root leaf ns i is held h = absurd (omega arith)
   tall-root (node l s p v r) ns i is held h = let x = at-some ns s (stored l p v r) (held .0) in omega arith

@@ -6,7 +6,7 @@ use native.Mathlib.Omega.{arith}
 use lib.ListN.{length, take, drop}
 use Rattle.std.proofs.shelf.Lists.{take-append-le, drop-append-le}
 use Rattle.kinds.specs.Rules.{Model, Laws}
-use Rattle.tree.specs.Tree.{Tree, leaf, node, rowOf, span, onto, Joined}
+use Rattle.tree.specs.Tree.{Tree, leaf, node, row-of, span, onto, Joined}
 use Rattle.buckets.specs.Rows.{Entry, entry}
 use Rattle.buckets.specs.Regions.{joined-with}
 
@@ -53,14 +53,14 @@ module _ {P R : Type 0} (m : Model P R) (laws : Laws m) where
   over-mid d xs f ys =
       over-append d xs (f ∷ ys) ∙ ap (λ z. joined-with m z ys) (sym (over-swap d (m .single (f .place)) xs))
 
-  pub span-over : (d : R) (t : Tree P R) → span m d t ≡ joined-with m d (rowOf t)
+  pub span-over : (d : R) (t : Tree P R) → span m d t ≡ joined-with m d (row-of t)
   span-over d leaf = refl
   span-over d (node l s p v r) =
       ap (m .joined d) (ap (λ z. span m z r) (span-over (m .single p) l)
-      ∙ span-over (joined-with m (m .single p) (rowOf l)) r)
-      ∙ sym (over-join d (joined-with m (m .single p) (rowOf l)) (rowOf r))
-      ∙ ap (λ z. joined-with m z (rowOf r)) (sym (over-join d (m .single p) (rowOf l)))
-      ∙ sym (over-mid d (rowOf l) (entry s p) (rowOf r))
+      ∙ span-over (joined-with m (m .single p) (row-of l)) r)
+      ∙ sym (over-join d (joined-with m (m .single p) (row-of l)) (row-of r))
+      ∙ ap (λ z. joined-with m z (row-of r)) (sym (over-join d (m .single p) (row-of l)))
+      ∙ sym (over-mid d (row-of l) (entry s p) (row-of r))
 
   -- Where the stored regions are right, the root's gives the whole join.
   pub onto-span : (d : R) (t : Tree P R) → Joined m t → onto m d t ≡ span m d t

@@ -14,13 +14,13 @@ use Rattle.std.specs.declared.option.Option.{Option}
 use Rattle.std.specs.declared.option.Option.the-variants.{Some, None}
 use Rattle.kinds.specs.Rules.{Model}
 use Rattle.tree.specs.declared.node.Node.{Node}
-use Rattle.tree.specs.Slots.{at, countOf, idle}
-use Rattle.tree.specs.Tree.{Tree, leaf, node, size, rowOf, times, Balanced, Holds}
+use Rattle.tree.specs.Slots.{at, count-of, idle}
+use Rattle.tree.specs.Tree.{Tree, leaf, node, size, row-of, times, Balanced, Holds}
 use Rattle.tree.specs.Shapes.{evened, fused, shrunk}
 use Rattle.tree.specs.Contracted.{one, Done}
 use Rattle.tree.specs.Rows.{often, without, find}
 use Rattle.buckets.specs.Rows.{Entry, entry, In, later, ahead, Sorted, AllAdmitted, AheadLaws}
-use Rattle.tree.specs.Whole.{inUse, placeIn, rowIn, ShapeAt, OrderlyAt, Orderly}
+use Rattle.tree.specs.Whole.{in-use, place-in, row-in, ShapeAt, OrderlyAt, Orderly}
 use Rattle.tree.proofs.Held.{nth-set-other, at-some, at-nth, at-other, at-same, holds-set}
 use Rattle.tree.proofs.Balance.{same-even}
 use Rattle.tree.proofs.Shrinking.{smaller, fuses, joined-shrunk}
@@ -123,7 +123,7 @@ module _ {P R : Type 0} (m : Model P R) where
   admitted-without s es h f i = h f (in-without f s es i)
 
 module _ {P R : Type 0} (m : Model P R) (s : ℕ) (p : P) {ns ms : List (Node P R)} {root res : ℕ} {t : Tree P R}
-    (y : ShapeAt ns root t) (there : placeIn ns s ≡ Some p) (d : Done ns ms res (shrunk m p s t)) where
+    (y : ShapeAt ns root t) (there : place-in ns s ≡ Some p) (d : Done ns ms res (shrunk m p s t)) where
   once : times s t ≡ 1
   once = y .marked s ∙ ap (λ b. cond b 1 0) (present ns s p there)
 
@@ -178,58 +178,58 @@ module _ {P R : Type 0} (m : Model P R) (s : ℕ) (p : P) {ns ms : List (Node P 
         marked = marked-held (set ms s (idle x)) (shrunk m p s t) h (λ j. omega (arith, w j, apart j))
             (λ j lt. mark-low ns j (omega (arith, w j, y .marked j)))
             (λ j off. elim (ℕ-discrete j s) [
-              | yes e ↦ (let z : countOf (at (set ms s (idle x)) j) ≡ 0 = ap (λ i. countOf (at (set ms s (idle x)) i)) e
-                  ∙ ap countOf (at-same ms s (idle x) (pos .0) (pos .1)) in grind (arith, tells))
+              | yes e ↦ (let z : count-of (at (set ms s (idle x)) j) ≡ 0 = ap (λ i. count-of (at (set ms s (idle x)) i)) e
+                  ∙ ap count-of (at-same ms s (idle x) (pos .0) (pos .1)) in grind (arith, tells))
               | no e ↦ mark-at ns (set ms s (idle x)) j (at-other ms s j (idle x) (λ i. e (sym i)) ∙ at-kept j off)
                   ∙ sym (y .marked j) ∙ omega (arith, w j, one-other j s e)
             ]);
       }
 
-  pub others-stay : (j : ℕ) → inUse ns j ≡ false → nth ms j ≡ nth ns j
+  pub others-stay : (j : ℕ) → in-use ns j ≡ false → nth ms j ≡ nth ns j
   others-stay j off =
       d .kept j (omega (arith, smaller m p s t (y .balanced) .slots j, y .marked j, unused-mark ns j off))
 
-  pub others-went : (x : Node P R) (j : ℕ) → inUse ns j ≡ false → nth (set ms s x) j ≡ nth ns j
+  pub others-went : (x : Node P R) (j : ℕ) → in-use ns j ≡ false → nth (set ms s x) j ≡ nth ns j
   others-went x j off =
-      nth-set-other ms s j x (λ e. false≢true (sym off ∙ ap (inUse ns) (sym e) ∙ present ns s p there))
+      nth-set-other ms s j x (λ e. false≢true (sym off ∙ ap (in-use ns) (sym e) ∙ present ns s p there))
       ∙ others-stay j off
 
   module _ (laws : AheadLaws m) (ord : Orderly m ns root) where
     ord-t : OrderlyAt m t
     ord-t = subst (OrderlyAt m) (shape-tree ns root t y) ord
 
-    pub row-went : rowOf (shrunk m p s t) ≡ without s (rowOf t)
+    pub row-went : row-of (shrunk m p s t) ≡ without s (row-of t)
     row-went =
         row-shrunk m laws p s t (y .balanced) apart (ord-t .sorted) (ord-t .admitted)
-        (in-found s p (rowOf t) (sym (view-row ns root t y s) ∙ there))
+        (in-found s p (row-of t) (sym (view-row ns root t y s) ∙ there))
 
     -- The search finds what is present.
     pub found : size (shrunk m p s t) ≡ size t → ⊥
     found same = go (went m p s t (y .balanced))
       where
         z : times s (shrunk m p s t) ≡ 0
-        z = sym (often-row s (shrunk m p s t)) ∙ ap (often s) row-went ∙ often-without s (rowOf t)
+        z = sym (often-row s (shrunk m p s t)) ∙ ap (often s) row-went ∙ often-without s (row-of t)
 
         go : Went m s t (shrunk m p s t) → ⊥
         go (inl w) = omega (arith, w .1)
         go (inr w) = omega (arith, w .0 s, z, once)
 
     pub view-went : (ns₂ : List (Node P R)) → ShapeAt ns₂ res (shrunk m p s t) → (j : ℕ)
-        → placeIn ns₂ j ≡ cond (eqb j s) None (placeIn ns j)
+        → place-in ns₂ j ≡ cond (eqb j s) None (place-in ns j)
     view-went ns₂ z j =
-        view-row ns₂ res (shrunk m p s t) z j ∙ ap (find j) row-went ∙ find-without j s (rowOf t)
+        view-row ns₂ res (shrunk m p s t) z j ∙ ap (find j) row-went ∙ find-without j s (row-of t)
         ∙ ap (λ o. cond (eqb j s) None o) (sym (view-row ns root t y j))
 
     pub order-went : (ns₂ : List (Node P R)) → ShapeAt ns₂ res (shrunk m p s t)
-        → Orderly m ns₂ res × (rowIn ns₂ res ≡ without s (rowIn ns root))
+        → Orderly m ns₂ res × (row-in ns₂ res ≡ without s (row-in ns root))
     order-went ns₂ z =
         let eu = shape-tree ns₂ res (shrunk m p s t) z in
         let u : OrderlyAt m (shrunk m p s t) = record {
-          sorted = subst (Sorted m) (sym row-went) (sorted-without m s (rowOf t) (ord-t .sorted));
-          admitted = subst (AllAdmitted m) (sym row-went) (admitted-without m s (rowOf t) (ord-t .admitted));
+          sorted = subst (Sorted m) (sym row-went) (sorted-without m s (row-of t) (ord-t .sorted));
+          admitted = subst (AllAdmitted m) (sym row-went) (admitted-without m s (row-of t) (ord-t .admitted));
           joined = joined-shrunk m p s t (ord-t .joined);
         } in (
           subst (OrderlyAt m) (sym eu) u,
-          ap rowOf eu ∙ row-went
-              ∙ ap (λ v. without s (rowOf v)) (sym (shape-tree ns root t y)),
+          ap row-of eu ∙ row-went
+              ∙ ap (λ v. without s (row-of v)) (sym (shape-tree ns root t y)),
         )

@@ -9,9 +9,9 @@ use Rattle.kinds.specs.Rules.{Model, Laws}
 use Rattle.buckets.specs.Rows.{Entry, entry, ahead}
 use Rattle.buckets.specs.Regions.{joined-with}
 use Rattle.tree.specs.declared.node.Node.{Node}
-use Rattle.tree.specs.Slots.{at, countOf, leftOf, overOf}
-use Rattle.tree.specs.Tree.{Tree, rowOf, size, Joined}
-use Rattle.tree.specs.Shapes.{firstSlot, ranked}
+use Rattle.tree.specs.Slots.{at, count-of, left-child, joined-over}
+use Rattle.tree.specs.Tree.{Tree, row-of, size, Joined}
+use Rattle.tree.specs.Shapes.{first-slot, ranked}
 use Rattle.tree.specs.Contracted.{TreeAt}
 use Rattle.tree.proofs.Writes.{Opened}
 use Rattle.tree.proofs.Removal.{tree-open-left, tree-left, tree-right, less-left, first-here, first-is}
@@ -23,8 +23,8 @@ pub record FirstWay {P R : Type 0} (ns : List (Node P R)) (i left : ℕ) (t : Tr
   pub rest : Tree P R
   pub held : TreeAt ns i rest
   pub pos : 0 < i
-  pub left-is : left ≡ leftOf (at ns i)
-  pub same : firstSlot rest ≡ firstSlot t
+  pub left-is : left ≡ left-child (at ns i)
+  pub same : first-slot rest ≡ first-slot t
 
 abbrev pub FirstWays : {P R : Type 0} → List (Node P R) → ℕ → ℕ → ℕ → Type 0
 FirstWays {P} {R} ns root i left = (t : Tree P R) → TreeAt ns root t → FirstWay ns i left t
@@ -34,7 +34,7 @@ module _ {P R : Type 0} (m : Model P R) {ns : List (Node P R)} {i left : ℕ} {t
     pub first-next : (left ≡ 0 → ⊥) → (0 < left) × (left < length ns)
     first-next ne = (omega arith, left-in m (w .held) (tree-open-left m (w .held) (w .pos) (w .left-is) .1))
 
-    pub first-step : (left ≡ 0 → ⊥) → {next : ℕ} → next ≡ leftOf (at ns left) → FirstWay ns left next t
+    pub first-step : (left ≡ 0 → ⊥) → {next : ℕ} → next ≡ left-child (at ns left) → FirstWay ns left next t
     first-step ne read =
         let o = tree-open-left m (w .held) (w .pos) (w .left-is) .1 in
         record {
@@ -46,18 +46,18 @@ module _ {P R : Type 0} (m : Model P R) {ns : List (Node P R)} {i left : ℕ} {t
               (w .held) o ne _ refl ∙ w .same;
         }
 
-    pub first-less : (left ≡ 0 → ⊥) → {next : ℕ} → next ≡ leftOf (at ns left)
-        → countOf (at ns next) < countOf (at ns left)
+    pub first-less : (left ≡ 0 → ⊥) → {next : ℕ} → next ≡ left-child (at ns left)
+        → count-of (at ns next) < count-of (at ns left)
     first-less ne read =
         let v = first-step ne read in
         less-left m (v .held) (tree-open-left m (v .held) (v .pos) read .1) _ refl
 
-    pub first-end : left ≡ 0 → i ≡ firstSlot t
+    pub first-end : left ≡ 0 → i ≡ first-slot t
     first-end none =
         let o = tree-open-left m (w .held) (w .pos) (w .left-is) in
         let e = first-here m (o .1 .d) i (o .0) (o .1 .e) (sym none ∙ o .1 .left-is) ns
         (tree-left m (w .held) (o .1) .held) in
-        sym (ap firstSlot (o .1 .is) ∙ e .0) ∙ w .same
+        sym (ap first-slot (o .1 .is) ∙ e .0) ∙ w .same
 
 -- Slot i holds a tree, and as many entries as `before` stand left of it in t.
 pub record RankWay {P R : Type 0} (m : Model P R) (p : P) (s : ℕ) (ns : List (Node P R)) (i before : ℕ) (t : Tree P R) :
@@ -76,7 +76,7 @@ module _ {P R : Type 0} (m : Model P R) (p : P) (s : ℕ) {ns : List (Node P R)}
   rank-end none = let a = ap (ranked m p s) (zero-leaf m (w .rest) (w .held) none) in omega (arith, w .same)
 
   module _ {place : P} {to-left to-right : ℕ} (o : Opened i place to-left to-right (w .rest)) {x : ℕ}
-      (is : x ≡ countOf (at ns to-left)) where
+      (is : x ≡ count-of (at ns to-left)) where
     pub rank-few : size t ≤ 4095 → before + x + 1 ≤ 4095
     rank-few few = let a = left-count m (w .held) o x is in let b = ap size (o .is) in omega (arith, w .few)
 
@@ -113,7 +113,7 @@ pub record SpanWay {P R : Type 0} (m : Model P R) (part : ℕ → List (Entry P)
   pub rest : Tree P R
   pub held : TreeAt ns i rest
   pub joined : Joined m t → Joined m rest
-  pub same : Joined m t → joined-with m base (part from (rowOf t)) ≡ joined-with m join (part to (rowOf rest))
+  pub same : Joined m t → joined-with m base (part from (row-of t)) ≡ joined-with m join (part to (row-of rest))
 
 abbrev pub SpanWays : {P R : Type 0} → Model P R → (ℕ → List (Entry P) → List (Entry P)) → List (Node P R) → ℕ → ℕ → ℕ
     → ℕ → R → R → Type 0
@@ -123,13 +123,13 @@ SpanWays {P} {R} m part ns root i from to base join =
 module _ {P R : Type 0} (m : Model P R) (laws : Laws m) {ns : List (Node P R)} {i from to : ℕ} {base join : R}
     {t : Tree P R} where
   module _ (w : SpanWay m drop ns i from to base join t) where
-    pub suffix-end : i ≡ 0 → Joined m t → join ≡ joined-with m base (drop from (rowOf t))
+    pub suffix-end : i ≡ 0 → Joined m t → join ≡ joined-with m base (drop from (row-of t))
     suffix-end none h =
-        sym (w .same h ∙ ap (λ u. joined-with m join (drop to (rowOf u))) (zero-leaf m (w .rest) (w .held) none)
+        sym (w .same h ∙ ap (λ u. joined-with m join (drop to (row-of u))) (zero-leaf m (w .rest) (w .held) none)
         ∙ ap (joined-with m join) (drop-nil to))
 
     module _ {place : P} {to-left to-right : ℕ} (o : Opened i place to-left to-right (w .rest)) {x : ℕ}
-        (is : x ≡ countOf (at ns to-left)) where
+        (is : x ≡ count-of (at ns to-left)) where
       pub suffix-step-right : x < to → SpanWay m drop ns to-right from (to - x - 1) base join t
       suffix-step-right lt =
           record {
@@ -140,7 +140,7 @@ module _ {P R : Type 0} (m : Model P R) (laws : Laws m) {ns : List (Node P R)} {
           }
 
       pub suffix-step-left : to ≤ x → {own more : R} → own ≡ m .joined join (m .single place)
-          → more ≡ overOf m own (at ns to-right) → SpanWay m drop ns to-left from to base more t
+          → more ≡ joined-over m own (at ns to-right) → SpanWay m drop ns to-left from to base more t
       suffix-step-left le {own} {more} owns mores =
           record {
             rest = o .d;
@@ -151,13 +151,13 @@ module _ {P R : Type 0} (m : Model P R) (laws : Laws m) {ns : List (Node P R)} {
           }
 
   module _ (w : SpanWay m take ns i from to base join t) where
-    pub prefix-end : i ≡ 0 → Joined m t → join ≡ joined-with m base (take from (rowOf t))
+    pub prefix-end : i ≡ 0 → Joined m t → join ≡ joined-with m base (take from (row-of t))
     prefix-end none h =
-        sym (w .same h ∙ ap (λ u. joined-with m join (take to (rowOf u))) (zero-leaf m (w .rest) (w .held) none)
+        sym (w .same h ∙ ap (λ u. joined-with m join (take to (row-of u))) (zero-leaf m (w .rest) (w .held) none)
         ∙ ap (joined-with m join) (take-nil to))
 
     module _ {place : P} {to-left to-right : ℕ} (o : Opened i place to-left to-right (w .rest)) {x : ℕ}
-        (is : x ≡ countOf (at ns to-left)) where
+        (is : x ≡ count-of (at ns to-left)) where
       pub prefix-step-left : to ≤ x → SpanWay m take ns to-left from to base join t
       prefix-step-left le =
           record {
@@ -168,7 +168,7 @@ module _ {P R : Type 0} (m : Model P R) (laws : Laws m) {ns : List (Node P R)} {
           }
 
       pub prefix-step-right : x < to → {own more : R} → own ≡ m .joined join (m .single place)
-          → more ≡ overOf m own (at ns to-left) → SpanWay m take ns to-right from (to - x - 1) base more t
+          → more ≡ joined-over m own (at ns to-left) → SpanWay m take ns to-right from (to - x - 1) base more t
       prefix-step-right lt {own} {more} owns mores =
           record {
             rest = o .e;
@@ -184,13 +184,13 @@ pub record RunWay {P R : Type 0} (m : Model P R) (ns : List (Node P R)) (i first
   pub rest : Tree P R
   pub held : TreeAt ns i rest
   pub joined : Joined m t → Joined m rest
-  pub same : drop first (take end (rowOf t)) ≡ drop skip (take keep (rowOf rest))
+  pub same : drop first (take end (row-of t)) ≡ drop skip (take keep (row-of rest))
 
 -- Every tree at the root leads to such a way, and the run is not empty.
 pub record RunWays {P R : Type 0} (m : Model P R) (ns : List (Node P R)) (root i first end skip keep : ℕ) : Type 0 where
   pub way : (t : Tree P R) → TreeAt ns root t → RunWay m ns i first end skip keep t
   pub some : skip < keep
-  pub within : keep ≤ countOf (at ns i)
+  pub within : keep ≤ count-of (at ns i)
 
 module _ {P R : Type 0} (m : Model P R) (laws : Laws m) {ns : List (Node P R)} {root i first end skip keep : ℕ}
     (w : RunWays m ns root i first end skip keep) where
@@ -199,7 +199,7 @@ module _ {P R : Type 0} (m : Model P R) (laws : Laws m) {ns : List (Node P R)} {
 
   module _ {place : P} {to-left to-right : ℕ}
       (opens : (t : Tree P R) (y : TreeAt ns root t) → Opened i place to-left to-right (w .way t y .rest)) {x : ℕ}
-      (is : x ≡ countOf (at ns to-left)) where
+      (is : x ≡ count-of (at ns to-left)) where
     pub run-step-left : keep ≤ x → RunWays m ns root to-left first end skip keep
     run-step-left le =
         record {

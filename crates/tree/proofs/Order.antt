@@ -8,7 +8,7 @@ use native.Mathlib.Omega.{arith}
 use Rattle.std.proofs.shelf.Ways.{tells}
 use Rattle.kinds.specs.Rules.{Model, Admitted}
 use Rattle.buckets.specs.Rows.{Entry, entry, In, here, later, ahead, inserted, Sorted, AllAdmitted, AheadLaws}
-use Rattle.tree.specs.Tree.{Tree, leaf, node, rowOf, times}
+use Rattle.tree.specs.Tree.{Tree, leaf, node, row-of, times}
 use Rattle.tree.specs.Shapes.{evened, grown}
 use Rattle.tree.specs.Contracted.{one}
 use Rattle.tree.specs.Rows.{often}
@@ -49,12 +49,12 @@ module _ {P : Type 0} where
   in-often {e} (later {y} {xs} i) = omega (arith, in-often i)
 
 module _ {P R : Type 0} where
-  pub often-row : (j : ℕ) (t : Tree P R) → often j (rowOf t) ≡ times j t
+  pub often-row : (j : ℕ) (t : Tree P R) → often j (row-of t) ≡ times j t
   often-row j leaf = refl
   often-row j (node l s p v r) =
       let a = often-row j l in
       let b = often-row j r in
-      let c = often-append j (rowOf l) (entry s p ∷ rowOf r) in
+      let c = often-append j (row-of l) (entry s p ∷ row-of r) in
       omega arith
 
 module _ {P R : Type 0} (m : Model P R) where
@@ -140,25 +140,25 @@ module _ {P R : Type 0} (m : Model P R) where
         go false is ih = ap (λ t. x ∷ t) ih
 
     -- The row of the tree with one more entry.
-    pub row-grown : (p : P) (s : ℕ) (t : Tree P R) → Admitted m p → AllAdmitted m (rowOf t) → Sorted m (rowOf t)
-        → rowOf (grown m p s t) ≡ inserted m (entry s p) (rowOf t)
+    pub row-grown : (p : P) (s : ℕ) (t : Tree P R) → Admitted m p → AllAdmitted m (row-of t) → Sorted m (row-of t)
+        → row-of (grown m p s t) ≡ inserted m (entry s p) (row-of t)
     row-grown p s leaf o a h = refl
     row-grown p s (node l k q v r) o a h =
-        let w = admitted-around (rowOf l) (entry k q) (rowOf r) a in
-        let z = around (rowOf l) (entry k q) (rowOf r) h in
+        let w = admitted-around (row-of l) (entry k q) (row-of r) a in
+        let z = around (row-of l) (entry k q) (row-of r) h in
         go (ahead m (entry s p) (entry k q)) refl (row-grown p s l o (w .left) (z .sorted-l))
         (row-grown p s r o (w .right) (z .sorted-r))
       where
-        go : (b : Bool) → ahead m (entry s p) (entry k q) ≡ b → rowOf (grown m p s l) ≡ inserted m (entry s p) (rowOf l)
-            → rowOf (grown m p s r) ≡ inserted m (entry s p) (rowOf r)
-            → rowOf (cond b (evened m (grown m p s l) k q r) (evened m l k q (grown m p s r))) ≡ inserted m (entry s p)
-            (rowOf l ++ (entry k q ∷ rowOf r))
+        go : (b : Bool) → ahead m (entry s p) (entry k q) ≡ b → row-of (grown m p s l) ≡ inserted m (entry s p) (row-of l)
+            → row-of (grown m p s r) ≡ inserted m (entry s p) (row-of r)
+            → row-of (cond b (evened m (grown m p s l) k q r) (evened m l k q (grown m p s r))) ≡ inserted m (entry s p)
+            (row-of l ++ (entry k q ∷ row-of r))
         go true is x y =
-            same-even m (grown m p s l) k q r .rows ∙ ap (λ z. z ++ (entry k q ∷ rowOf r)) x
-            ∙ sym (inserted-left (entry s p) (entry k q) (rowOf l) (rowOf r) is)
+            same-even m (grown m p s l) k q r .rows ∙ ap (λ z. z ++ (entry k q ∷ row-of r)) x
+            ∙ sym (inserted-left (entry s p) (entry k q) (row-of l) (row-of r) is)
         go false is x y =
-            same-even m l k q (grown m p s r) .rows ∙ ap (λ z. rowOf l ++ (entry k q ∷ z)) y
-            ∙ sym (inserted-right (entry s p) (entry k q) (rowOf l) (rowOf r) o a h is)
+            same-even m l k q (grown m p s r) .rows ∙ ap (λ z. row-of l ++ (entry k q ∷ z)) y
+            ∙ sym (inserted-right (entry s p) (entry k q) (row-of l) (row-of r) o a h is)
 
     -- The row stays sorted.
     pub sorted-inserted : (e : Entry P) (es : List (Entry P)) → Fine e → AllAdmitted m es → often (e .set) es ≡ 0

@@ -13,12 +13,12 @@ use Rattle.std.specs.declared.option.Option.{Option}
 use Rattle.std.specs.declared.option.Option.the-variants.{Some, None}
 use Rattle.kinds.specs.Rules.{Model}
 use Rattle.tree.specs.declared.node.Node.{Node}
-use Rattle.tree.specs.Slots.{at, countOf, placeOf}
-use Rattle.tree.specs.Tree.{Tree, leaf, node, rowOf, times, stored, Holds}
+use Rattle.tree.specs.Slots.{at, count-of, held-place}
+use Rattle.tree.specs.Tree.{Tree, leaf, node, row-of, times, stored, Holds}
 use Rattle.tree.specs.Contracted.{one, TreeAt}
 use Rattle.tree.specs.Rows.{often, without, find}
 use Rattle.buckets.specs.Rows.{Entry, entry, In, later}
-use Rattle.tree.specs.Whole.{inUse, placeIn, mark, treeIn, rowIn, ShapeAt}
+use Rattle.tree.specs.Whole.{in-use, place-in, mark, tree-in, row-in, ShapeAt}
 use Rattle.tree.proofs.Held.{at-nth}
 use Rattle.tree.proofs.Balance.{low}
 use Rattle.tree.proofs.Order.{in-first, often-row}
@@ -80,52 +80,52 @@ module _ {P R : Type 0} where
           (stored l p v r, ap (at ns) e ∙ h .0, omega arith)
 
   find-held : (ns : List (Node P R)) (t : Tree P R) (j : ℕ) → Holds ns t → 0 < times j t
-      → find j (rowOf t) ≡ placeOf (at ns j)
+      → find j (row-of t) ≡ held-place (at ns j)
   find-held ns leaf j h lt = absurd (omega arith)
   find-held ns (node l s p v r) j h lt =
-      find-append j (rowOf l) (entry s p ∷ rowOf r)
+      find-append j (row-of l) (entry s p ∷ row-of r)
       ∙ go (decLt 0 (times j l)) (find-held ns l j (h .1)) (find-held ns r j (h .2)) (ℕ-discrete j s)
     where
-      go : Dec (0 < times j l) → (0 < times j l → find j (rowOf l) ≡ placeOf (at ns j))
-          → (0 < times j r → find j (rowOf r) ≡ placeOf (at ns j)) → Dec (j ≡ s)
-          → alt (find j (rowOf l)) (cond (eqb j s) (Some p) (find j (rowOf r))) ≡ placeOf (at ns j)
+      go : Dec (0 < times j l) → (0 < times j l → find j (row-of l) ≡ held-place (at ns j))
+          → (0 < times j r → find j (row-of r) ≡ held-place (at ns j)) → Dec (j ≡ s)
+          → alt (find j (row-of l)) (cond (eqb j s) (Some p) (find j (row-of r))) ≡ held-place (at ns j)
       go (yes a) f g d =
           let w = held-at ns l j (h .1) a in
-          let e : find j (rowOf l) ≡ Some (w .0 .place) = f a ∙ ap placeOf (w .1) in
-          ap (λ o. alt o (cond (eqb j s) (Some p) (find j (rowOf r)))) e ∙ sym (ap placeOf (w .1))
+          let e : find j (row-of l) ≡ Some (w .0 .place) = f a ∙ ap held-place (w .1) in
+          ap (λ o. alt o (cond (eqb j s) (Some p) (find j (row-of r)))) e ∙ sym (ap held-place (w .1))
       go (no a) f g (yes d) =
           let test : eqb j s ≡ true = grind (arith, tells) in
-          ap (λ o. alt o (cond (eqb j s) (Some p) (find j (rowOf r))))
-          (find-none j (rowOf l) (often-row j l ∙ omega arith))
-          ∙ ap (λ b. cond b (Some p) (find j (rowOf r))) test ∙ sym (ap placeOf (ap (at ns) d ∙ h .0))
+          ap (λ o. alt o (cond (eqb j s) (Some p) (find j (row-of r))))
+          (find-none j (row-of l) (often-row j l ∙ omega arith))
+          ∙ ap (λ b. cond b (Some p) (find j (row-of r))) test ∙ sym (ap held-place (ap (at ns) d ∙ h .0))
       go (no a) f g (no d) =
           let test : eqb j s ≡ false = grind (arith, tells) in
           let z : one j s ≡ 0 = one-other j s d in
-          ap (λ o. alt o (cond (eqb j s) (Some p) (find j (rowOf r))))
-          (find-none j (rowOf l) (often-row j l ∙ omega arith))
-          ∙ ap (λ b. cond b (Some p) (find j (rowOf r))) test ∙ g (omega arith)
+          ap (λ o. alt o (cond (eqb j s) (Some p) (find j (row-of r))))
+          (find-none j (row-of l) (often-row j l ∙ omega arith))
+          ∙ ap (λ b. cond b (Some p) (find j (row-of r))) test ∙ g (omega arith)
 
-  use-of : (ns : List (Node P R)) (j : ℕ) (b : Bool) → inUse ns j ≡ b → mark ns j ≡ cond b 1 0
+  use-of : (ns : List (Node P R)) (j : ℕ) (b : Bool) → in-use ns j ≡ b → mark ns j ≡ cond b 1 0
   use-of ns j b h = ap (λ t. cond t 1 0) h
 
-  pub unused-mark : (ns : List (Node P R)) (j : ℕ) → inUse ns j ≡ false → mark ns j ≡ 0
+  pub unused-mark : (ns : List (Node P R)) (j : ℕ) → in-use ns j ≡ false → mark ns j ≡ 0
   unused-mark ns j h = use-of ns j false h
 
   -- Who is present where is what the row says.
   pub view-row : (ns : List (Node P R)) (root : ℕ) (t : Tree P R) → ShapeAt ns root t → (j : ℕ)
-      → placeIn ns j ≡ find j (rowOf t)
-  view-row ns root t y j = go (inUse ns j) refl
+      → place-in ns j ≡ find j (row-of t)
+  view-row ns root t y j = go (in-use ns j) refl
     where
-      go : (b : Bool) → inUse ns j ≡ b → cond (inUse ns j) (placeOf (at ns j)) None ≡ find j (rowOf t)
+      go : (b : Bool) → in-use ns j ≡ b → cond (in-use ns j) (held-place (at ns j)) None ≡ find j (row-of t)
       go true is =
-          ap (λ b. cond b (placeOf (at ns j)) None) is
+          ap (λ b. cond b (held-place (at ns j)) None) is
           ∙ sym (find-held ns t j (y .held) (omega (arith, y .marked j, use-of ns j true is)))
       go false is =
-          ap (λ b. cond b (placeOf (at ns j)) None) is
-          ∙ sym (find-none j (rowOf t) (often-row j t ∙ y .marked j ∙ use-of ns j false is))
+          ap (λ b. cond b (held-place (at ns j)) None) is
+          ∙ sym (find-none j (row-of t) (often-row j t ∙ y .marked j ∙ use-of ns j false is))
 
   pub mark-at : (ns ms : List (Node P R)) (j : ℕ) → at ms j ≡ at ns j → mark ms j ≡ mark ns j
-  mark-at ns ms j e = ap (λ o. cond (ltb j 4096 && ltb 0 (countOf o)) 1 0) e
+  mark-at ns ms j e = ap (λ o. cond (ltb j 4096 && ltb 0 (count-of o)) 1 0) e
 
   -- A held tree of slots below 4096 whose other slots are not marked.
   pub marked-held : (ms : List (Node P R)) (u : Tree P R) → Holds ms u → ((j : ℕ) → times j u ≤ 1)
@@ -137,7 +137,7 @@ module _ {P R : Type 0} where
       go (yes lt) =
           let w = held-at ms u j h lt in
           let a : j < 4096 = low j lt in
-          let b : 0 < countOf (at ms j) = subst (λ n. 0 < n) (sym (ap countOf (w .1))) (w .2) in
+          let b : 0 < count-of (at ms j) = subst (λ n. 0 < n) (sym (ap count-of (w .1))) (w .2) in
           let c : mark ms j ≡ 1 = grind (arith, tells) in
           omega (arith, apart j)
       go (no ge) = let z : times j u ≡ 0 = omega arith in z ∙ sym (off j z)
@@ -159,32 +159,32 @@ module _ {P R : Type 0} where
       }
 
 module _ {P R : Type 0} where
-  pub present : (ns : List (Node P R)) (s : ℕ) (p : P) → placeIn ns s ≡ Some p → inUse ns s ≡ true
-  present ns s p h = go (inUse ns s) refl h
+  pub present : (ns : List (Node P R)) (s : ℕ) (p : P) → place-in ns s ≡ Some p → in-use ns s ≡ true
+  present ns s p h = go (in-use ns s) refl h
     where
-      go : (b : Bool) → inUse ns s ≡ b → cond b (placeOf (at ns s)) None ≡ Some p → b ≡ true
+      go : (b : Bool) → in-use ns s ≡ b → cond b (held-place (at ns s)) None ≡ Some p → b ≡ true
       go true is w = refl
       go false is w = let z : _≡_ {A = ℕ} 0 1 = cc in absurd (omega arith)
 
 module _ {P R : Type 0} where
   -- A set that is nowhere has no count.
-  pub gone-count : (ns : List (Node P R)) (s : ℕ) (o : Option P) → placeIn ns s ≡ cond (eqb s s) None o → s < 4096
-      → 0 < countOf (at ns s) → ⊥
+  pub gone-count : (ns : List (Node P R)) (s : ℕ) (o : Option P) → place-in ns s ≡ cond (eqb s s) None o → s < 4096
+      → 0 < count-of (at ns s) → ⊥
   gone-count ns s w h low pos = go (at ns s) refl
     where
-      used : inUse ns s ≡ true
+      used : in-use ns s ≡ true
       used = grind (arith, tells)
 
       test : eqb s s ≡ true
       test = grind (arith, tells)
 
-      none : placeIn ns s ≡ None
+      none : place-in ns s ≡ None
       none = h ∙ ap (λ b. cond b None w) test
 
       go : (o : Option (Node P R)) → at ns s ≡ o → ⊥
-      go None is = let z : countOf (at ns s) ≡ 0 = ap countOf is in omega arith
+      go None is = let z : count-of (at ns s) ≡ 0 = ap count-of is in omega arith
       go (Some x) is =
-          let a : placeIn ns s ≡ Some (x .place) = ap (λ b. cond b (placeOf (at ns s)) None) used ∙ ap placeOf is in
+          let a : place-in ns s ≡ Some (x .place) = ap (λ b. cond b (held-place (at ns s)) None) used ∙ ap held-place is in
           let z : _≡_ {A = ℕ} 0 1 = cc (sym none ∙ a) in omega arith
 
 module _ {X : Type 0} where
@@ -193,47 +193,47 @@ module _ {X : Type 0} where
   cond-cond false x y z = refl
 
 module _ {P R : Type 0} where
-  pub row-says : (ns : List (Node P R)) (root : ℕ) → ShapeAt ns root (treeIn ns root) → (j : ℕ)
-      → (find j (rowIn ns root) ≡ placeIn ns j) × (often j (rowIn ns root) ≤ 1)
+  pub row-says : (ns : List (Node P R)) (root : ℕ) → ShapeAt ns root (tree-in ns root) → (j : ℕ)
+      → (find j (row-in ns root) ≡ place-in ns j) × (often j (row-in ns root) ≤ 1)
   row-says ns root y j = (
-    sym (view-row ns root (treeIn ns root) y j),
+    sym (view-row ns root (tree-in ns root) y j),
     omega
-        (arith, often-row j (treeIn ns root), y .marked j, mark-one ns j),
+        (arith, often-row j (tree-in ns root), y .marked j, mark-one ns j),
   )
 
   -- A slot without a place is not in use.
-  pub nowhere : (ns : List (Node P R)) (j : ℕ) → placeIn ns j ≡ None → inUse ns j ≡ false
-  nowhere ns j h = go (at ns j) refl (inUse ns j) refl
+  pub nowhere : (ns : List (Node P R)) (j : ℕ) → place-in ns j ≡ None → in-use ns j ≡ false
+  nowhere ns j h = go (at ns j) refl (in-use ns j) refl
     where
-      go : (o : Option (Node P R)) → at ns j ≡ o → (b : Bool) → inUse ns j ≡ b → inUse ns j ≡ false
+      go : (o : Option (Node P R)) → at ns j ≡ o → (b : Bool) → in-use ns j ≡ b → in-use ns j ≡ false
       go o is false u = u
       go None is true u =
-          let z : countOf (at ns j) ≡ 0 = ap countOf is in let w : 0 < countOf (at ns j) = grind (arith, tells) in
+          let z : count-of (at ns j) ≡ 0 = ap count-of is in let w : 0 < count-of (at ns j) = grind (arith, tells) in
           absurd (omega arith)
       go (Some x) is true u =
-          let a : placeIn ns j ≡ Some (x .place) = ap (λ b. cond b (placeOf (at ns j)) None) u ∙ ap placeOf is in
+          let a : place-in ns j ≡ Some (x .place) = ap (λ b. cond b (held-place (at ns j)) None) u ∙ ap held-place is in
           let z : _≡_ {A = ℕ} 0 1 = cc (sym h ∙ a) in absurd (omega arith)
 
   -- A set that was not present is not present after another one moved.
-  pub still-absent : (ns ms ks : List (Node P R)) (s j : ℕ) (p q : P) → placeIn ns s ≡ Some q → placeIn ns j ≡ None
-      → nth ms j ≡ nth ns j → placeIn ks j ≡ cond (eqb j s) (Some p) (placeIn ms j) → placeIn ks j ≡ None
+  pub still-absent : (ns ms ks : List (Node P R)) (s j : ℕ) (p q : P) → place-in ns s ≡ Some q → place-in ns j ≡ None
+      → nth ms j ≡ nth ns j → place-in ks j ≡ cond (eqb j s) (Some p) (place-in ms j) → place-in ks j ≡ None
   still-absent ns ms ks s j p q there none same view =
       let ne : eqb j s ≡ false = eqb-away j s
-      (λ e. let z : _≡_ {A = ℕ} 0 1 = cc (sym none ∙ ap (placeIn ns) e ∙ there) in omega arith) in
-      let a : placeIn ms j ≡ None = ap (λ o. cond (ltb j 4096 && ltb 0 (countOf o)) (placeOf o) None)
+      (λ e. let z : _≡_ {A = ℕ} 0 1 = cc (sym none ∙ ap (place-in ns) e ∙ there) in omega arith) in
+      let a : place-in ms j ≡ None = ap (λ o. cond (ltb j 4096 && ltb 0 (count-of o)) (held-place o) None)
       (at-nth ns ms j same) ∙ none in
-      view ∙ ap (λ b. cond b (Some p) (placeIn ms j)) ne ∙ a
+      view ∙ ap (λ b. cond b (Some p) (place-in ms j)) ne ∙ a
 
   -- A slot whose count is 0 holds no set.
-  pub uncounted : (ns : List (Node P R)) (j : ℕ) → countOf (at ns j) ≡ 0 → placeIn ns j ≡ None
+  pub uncounted : (ns : List (Node P R)) (j : ℕ) → count-of (at ns j) ≡ 0 → place-in ns j ≡ None
   uncounted ns j z =
-      let off : inUse ns j ≡ false = grind (arith, tells) in
-      ap (λ b. cond b (placeOf (at ns j)) None) off
+      let off : in-use ns j ≡ false = grind (arith, tells) in
+      ap (λ b. cond b (held-place (at ns j)) None) off
 
   -- Nor does one past the slots that may be used.
-  pub past : (ns : List (Node P R)) (j : ℕ) → min (length ns) 4096 ≤ j → placeIn ns j ≡ None
+  pub past : (ns : List (Node P R)) (j : ℕ) → min (length ns) 4096 ≤ j → place-in ns j ≡ None
   past ns j far = elim (decLt j 4096) [
     | yes low ↦ uncounted ns j (count-past ns j (omega arith))
-    | no high ↦ (let off : inUse ns j ≡ false = grind (arith, tells) in ap (λ b. cond b (placeOf (at ns j)) None)
+    | no high ↦ (let off : in-use ns j ≡ false = grind (arith, tells) in ap (λ b. cond b (held-place (at ns j)) None)
         off)
   ]

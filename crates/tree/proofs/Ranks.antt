@@ -11,11 +11,11 @@ use Rattle.std.specs.Finite.{nth}
 use Rattle.std.specs.declared.option.Option.the-variants.{Some}
 use Rattle.kinds.specs.Rules.{Model}
 use Rattle.tree.specs.declared.node.Node.{Node}
-use Rattle.tree.specs.Tree.{Tree, rowOf}
+use Rattle.tree.specs.Tree.{Tree, row-of}
 use Rattle.tree.specs.Shapes.{ranked}
 use Rattle.tree.specs.Rows.{often}
 use Rattle.buckets.specs.Rows.{Entry, entry, rank-of, AheadLaws}
-use Rattle.tree.specs.Whole.{placeIn, ShapeAt, OrderlyAt}
+use Rattle.tree.specs.Whole.{place-in, ShapeAt, OrderlyAt}
 use Rattle.tree.proofs.Order.{often-row}
 use Rattle.tree.proofs.Without.{ranked-nth}
 use Rattle.tree.proofs.Shape.{mark-one}
@@ -43,9 +43,9 @@ module _ {P : Type 0} where
       b ∙ sym (ap (λ b. cond b 0 (suc (rank-of (e .set) xs))) test)
 
 module _ {P R : Type 0} (m : Model P R) (laws : AheadLaws m) where
-  pub ranked-is : (ns : List (Node P R)) (root s : ℕ) (p : P) (t : Tree P R) → ShapeAt ns root t → placeIn ns s ≡ Some p
-      → OrderlyAt m t → ranked m p s t ≡ rank-of s (rowOf t)
+  pub ranked-is : (ns : List (Node P R)) (root s : ℕ) (p : P) (t : Tree P R) → ShapeAt ns root t → place-in ns s ≡ Some p
+      → OrderlyAt m t → ranked m p s t ≡ rank-of s (row-of t)
   ranked-is ns root s p t y there o =
-      rank-nth (rowOf t) (ranked m p s t) (entry s p) (omega (arith, often-row s t, y .marked s, mark-one ns s))
+      rank-nth (row-of t) (ranked m p s t) (entry s p) (omega (arith, often-row s t, y .marked s, mark-one ns s))
       (ranked-nth m laws p s t (λ j. omega (arith, y .marked j, mark-one ns j)) (o .sorted) (o .admitted)
-      (in-found s p (rowOf t) (sym (view-row ns root t y s) ∙ there)))
+      (in-found s p (row-of t) (sym (view-row ns root t y s) ∙ there)))

@@ -10,10 +10,10 @@ use Rattle.std.proofs.shelf.Ways.{tells}
 use Rattle.std.specs.declared.option.Option.the-variants.{Some}
 use Rattle.kinds.specs.Rules.{Model}
 use Rattle.tree.specs.declared.node.Node.{Node}
-use Rattle.tree.specs.Slots.{at, countOf, leftOf, rightOf, placeOf}
+use Rattle.tree.specs.Slots.{at, count-of, left-child, right-child, held-place}
 use Rattle.tree.specs.Tree.{Tree, leaf, node, linked, tall, stored}
 use Rattle.buckets.specs.Rows.{entry, ahead}
-use Rattle.tree.specs.Shapes.{rotatedTwice, rotatedRight, rotatedLeft, evened, grown}
+use Rattle.tree.specs.Shapes.{rotated-twice, rotated-right, rotated-left, evened, grown}
 use Rattle.tree.specs.Contracted.{TwoAt, ThreeAt, EvenAt, GrowAt, Done}
 use Rattle.tree.proofs.Held.{at-some, holds-root}
 use Rattle.tree.proofs.Writes.{Opened, opened, done-done}
@@ -24,13 +24,13 @@ use Rattle.tree.proofs.Growing.{larger}
 module _ {P R : Type 0} (m : Model P R) where
   module _ {ns : List (Node P R)} {s left right : ℕ} {l r : Tree P R} (y : EvenAt ns s left right l r) where
     -- The left tree taken apart.
-    pub open-left : {place : P} {to-left to-right : ℕ} → 0 < left → placeOf (at ns left) ≡ Some place
-        → to-left ≡ leftOf (at ns left) → to-right ≡ rightOf (at ns left) → Opened left place to-left to-right l
+    pub open-left : {place : P} {to-left to-right : ℕ} → 0 < left → held-place (at ns left) ≡ Some place
+        → to-left ≡ left-child (at ns left) → to-right ≡ right-child (at ns left) → Opened left place to-left to-right l
     open-left pos place-is left-is right-is =
         opened m ns l pos (y .two .left-is) (y .two .held-l) place-is left-is right-is
 
-    pub open-right : {place : P} {to-left to-right : ℕ} → 0 < right → placeOf (at ns right) ≡ Some place
-        → to-left ≡ leftOf (at ns right) → to-right ≡ rightOf (at ns right) → Opened right place to-left to-right r
+    pub open-right : {place : P} {to-left to-right : ℕ} → 0 < right → held-place (at ns right) ≡ Some place
+        → to-left ≡ left-child (at ns right) → to-right ≡ right-child (at ns right) → Opened right place to-left to-right r
     open-right pos place-is left-is right-is =
         opened m ns r pos (y .two .right-is) (y .two .held-r) place-is left-is right-is
 
@@ -81,73 +81,73 @@ module _ {P R : Type 0} (m : Model P R) where
   -- Which rotation a test picks.
   pub right-is-both : {i : ℕ} {place : P} {to-left to-right : ℕ} (l : Tree P R) (o : Opened i place to-left to-right l)
       (k : ℕ) (q : P) (c : Tree P R)
-      → tall (o .d) < tall (o .e) → rotatedRight m l k q c ≡ rotatedTwice m (o .d) i place (o .e) k q c
+      → tall (o .d) < tall (o .e) → rotated-right m l k q c ≡ rotated-twice m (o .d) i place (o .e) k q c
   right-is-both {i} {place} {to-left} {to-right} l o k q c lt =
       let test : ltb (tall (o .d)) (tall (o .e)) ≡ true = grind (arith, tells) in
-      ap (λ t. rotatedRight m t k q c) (o .is)
-      ∙ ap (λ b. cond b (rotatedTwice m (o .d) i place (o .e) k q c)
+      ap (λ t. rotated-right m t k q c) (o .is)
+      ∙ ap (λ b. cond b (rotated-twice m (o .d) i place (o .e) k q c)
       (linked m (o .d) i place (linked m (o .e) k q c))) test
 
   pub right-is-once : {i : ℕ} {place : P} {to-left to-right : ℕ} (l : Tree P R) (o : Opened i place to-left to-right l)
       (k : ℕ) (q : P) (c : Tree P R)
-      → tall (o .e) ≤ tall (o .d) → rotatedRight m l k q c ≡ linked m (o .d) i place (linked m (o .e) k q c)
+      → tall (o .e) ≤ tall (o .d) → rotated-right m l k q c ≡ linked m (o .d) i place (linked m (o .e) k q c)
   right-is-once {i} {place} {to-left} {to-right} l o k q c ge =
       let test : ltb (tall (o .d)) (tall (o .e)) ≡ false = grind (arith, tells) in
-      ap (λ t. rotatedRight m t k q c) (o .is)
-      ∙ ap (λ b. cond b (rotatedTwice m (o .d) i place (o .e) k q c)
+      ap (λ t. rotated-right m t k q c) (o .is)
+      ∙ ap (λ b. cond b (rotated-twice m (o .d) i place (o .e) k q c)
       (linked m (o .d) i place (linked m (o .e) k q c))) test
 
   pub left-is-both : {i : ℕ} {place : P} {to-left to-right : ℕ} (r : Tree P R) (o : Opened i place to-left to-right r)
       (a : Tree P R) (s : ℕ) (p : P)
-      → tall (o .e) < tall (o .d) → rotatedLeft m a s p r ≡ rotatedTwice m a s p (o .d) i place (o .e)
+      → tall (o .e) < tall (o .d) → rotated-left m a s p r ≡ rotated-twice m a s p (o .d) i place (o .e)
   left-is-both {i} {place} {to-left} {to-right} r o a s p lt =
       let test : ltb (tall (o .e)) (tall (o .d)) ≡ true = grind (arith, tells) in
-      ap (λ t. rotatedLeft m a s p t) (o .is)
-      ∙ ap (λ b. cond b (rotatedTwice m a s p (o .d) i place (o .e))
+      ap (λ t. rotated-left m a s p t) (o .is)
+      ∙ ap (λ b. cond b (rotated-twice m a s p (o .d) i place (o .e))
       (linked m (linked m a s p (o .d)) i place (o .e))) test
 
   pub left-is-once : {i : ℕ} {place : P} {to-left to-right : ℕ} (r : Tree P R) (o : Opened i place to-left to-right r)
       (a : Tree P R) (s : ℕ) (p : P)
-      → tall (o .d) ≤ tall (o .e) → rotatedLeft m a s p r ≡ linked m (linked m a s p (o .d)) i place (o .e)
+      → tall (o .d) ≤ tall (o .e) → rotated-left m a s p r ≡ linked m (linked m a s p (o .d)) i place (o .e)
   left-is-once {i} {place} {to-left} {to-right} r o a s p ge =
       let test : ltb (tall (o .e)) (tall (o .d)) ≡ false = grind (arith, tells) in
-      ap (λ t. rotatedLeft m a s p t) (o .is)
-      ∙ ap (λ b. cond b (rotatedTwice m a s p (o .d) i place (o .e))
+      ap (λ t. rotated-left m a s p t) (o .is)
+      ∙ ap (λ b. cond b (rotated-twice m a s p (o .d) i place (o .e))
       (linked m (linked m a s p (o .d)) i place (o .e))) test
 
   pub done-at : {n₀ n₁ : List (Node P R)} {x : ℕ} {t u : Tree P R} → t ≡ u → Done n₀ n₁ x u → Done n₀ n₁ x t
   done-at {n₀} {n₁} {x} e d = subst (λ v. Done n₀ n₁ x v) (sym e) d
 
 module _ {P R : Type 0} (m : Model P R) (l : Tree P R) (s : ℕ) (p : P) (r : Tree P R) where
-  pub even-right : tall r + 1 < tall l → evened m l s p r ≡ rotatedRight m l s p r
+  pub even-right : tall r + 1 < tall l → evened m l s p r ≡ rotated-right m l s p r
   even-right lt =
       let test : ltb (1 + tall r) (tall l) ≡ true = grind (arith, tells) in
-      ap (λ b. cond b (rotatedRight m l s p r)
-      (cond (ltb (1 + tall l) (tall r)) (rotatedLeft m l s p r) (linked m l s p r))) test
+      ap (λ b. cond b (rotated-right m l s p r)
+      (cond (ltb (1 + tall l) (tall r)) (rotated-left m l s p r) (linked m l s p r))) test
 
-  pub even-left : tall l + 1 < tall r → evened m l s p r ≡ rotatedLeft m l s p r
+  pub even-left : tall l + 1 < tall r → evened m l s p r ≡ rotated-left m l s p r
   even-left lt =
       let test : ltb (1 + tall r) (tall l) ≡ false = grind (arith, tells) in
       let test₂ : ltb (1 + tall l) (tall r) ≡ true = grind (arith, tells) in
-      ap (λ b. cond b (rotatedRight m l s p r)
-      (cond (ltb (1 + tall l) (tall r)) (rotatedLeft m l s p r) (linked m l s p r))) test
-      ∙ ap (λ b. cond b (rotatedLeft m l s p r) (linked m l s p r)) test₂
+      ap (λ b. cond b (rotated-right m l s p r)
+      (cond (ltb (1 + tall l) (tall r)) (rotated-left m l s p r) (linked m l s p r))) test
+      ∙ ap (λ b. cond b (rotated-left m l s p r) (linked m l s p r)) test₂
 
   pub even-plain : tall l ≤ tall r + 1 → tall r ≤ tall l + 1 → evened m l s p r ≡ linked m l s p r
   even-plain a b =
       let test : ltb (1 + tall r) (tall l) ≡ false = grind (arith, tells) in
       let test₂ : ltb (1 + tall l) (tall r) ≡ false = grind (arith, tells) in
-      ap (λ b. cond b (rotatedRight m l s p r)
-      (cond (ltb (1 + tall l) (tall r)) (rotatedLeft m l s p r) (linked m l s p r))) test
-      ∙ ap (λ b. cond b (rotatedLeft m l s p r) (linked m l s p r)) test₂
+      ap (λ b. cond b (rotated-right m l s p r)
+      (cond (ltb (1 + tall l) (tall r)) (rotated-left m l s p r) (linked m l s p r))) test
+      ∙ ap (λ b. cond b (rotated-left m l s p r) (linked m l s p r)) test₂
 
 module _ {P R : Type 0} (m : Model P R) (p : P) where
   module _ {ns : List (Node P R)} {s root : ℕ} {t : Tree P R} (y : GrowAt ns s root t) where
     pub grow-root : (root ≡ 0 → ⊥) → (0 < root) × (root < length ns)
     grow-root ne = (omega arith, rw (y .root-is) (holds-root ns t (omega arith) (y .held)))
 
-    pub grow-open : {place : P} {to-left to-right : ℕ} → (root ≡ 0 → ⊥) → placeOf (at ns root) ≡ Some place
-        → to-left ≡ leftOf (at ns root) → to-right ≡ rightOf (at ns root) → Opened root place to-left to-right t
+    pub grow-open : {place : P} {to-left to-right : ℕ} → (root ≡ 0 → ⊥) → held-place (at ns root) ≡ Some place
+        → to-left ≡ left-child (at ns root) → to-right ≡ right-child (at ns root) → Opened root place to-left to-right t
     grow-open ne place-is left-is right-is =
         opened m ns t (omega arith) (y .root-is) (y .held) place-is left-is right-is
 
@@ -221,12 +221,12 @@ module _ {P R : Type 0} (m : Model P R) (p : P) where
       grow-child true is = subst (λ i. GrowAt ns s i (o .d)) (sym is) grow-left
       grow-child false is = subst (λ i. GrowAt ns s i (o .e)) (sym is) grow-right
 
-      pub fewer-child : (b : Bool) {child : ℕ} → child ≡ cond b to-left to-right → (x : ℕ) → countOf (at ns root) ≡ x
-          → countOf (at ns child) < x
+      pub fewer-child : (b : Bool) {child : ℕ} → child ≡ cond b to-left to-right → (x : ℕ) → count-of (at ns root) ≡ x
+          → count-of (at ns child) < x
       fewer-child true is x e =
-          subst (λ i. countOf (at ns i) < x) (sym is) (fewer-left m ns (y .held) (y .balanced) o x e)
+          subst (λ i. count-of (at ns i) < x) (sym is) (fewer-left m ns (y .held) (y .balanced) o x e)
       fewer-child false is x e =
-          subst (λ i. countOf (at ns i) < x) (sym is) (fewer-right m ns (y .held) (y .balanced) o x e)
+          subst (λ i. count-of (at ns i) < x) (sym is) (fewer-right m ns (y .held) (y .balanced) o x e)
 
       pub after-child : (b : Bool) (n₁ : List (Node P R)) (new : ℕ) {left right : ℕ} → left ≡ cond b new to-left
           → right ≡ cond b to-right new → length n₁ ≡ length ns → Done ns n₁ new (grown m p s (cond b (o .d) (o .e)))

@@ -10,10 +10,10 @@ use Rattle.std.proofs.shelf.Ways.{tells}
 use Rattle.std.specs.declared.option.Option.the-variants.{Some}
 use Rattle.kinds.specs.Rules.{Model}
 use Rattle.tree.specs.declared.node.Node.{Node}
-use Rattle.tree.specs.Slots.{at, countOf, leftOf, rightOf, placeOf}
-use Rattle.tree.specs.Tree.{Tree, leaf, node, rootOf, stored, Balanced, Holds}
+use Rattle.tree.specs.Slots.{at, count-of, left-child, right-child, held-place}
+use Rattle.tree.specs.Tree.{Tree, leaf, node, root-of, stored, Balanced, Holds}
 use Rattle.buckets.specs.Rows.{entry, ahead}
-use Rattle.tree.specs.Shapes.{evened, headSlot, headPlace, pull, pulled, firstSlot, fused, shrunk}
+use Rattle.tree.specs.Shapes.{evened, head-slot, head-place, pull, pulled, first-slot, fused, shrunk}
 use Rattle.tree.specs.Contracted.{EvenAt, TreeAt, PairAt, Done}
 use Rattle.tree.proofs.Held.{at-some, holds-root}
 use Rattle.tree.proofs.Writes.{Opened, opened, done-done, still}
@@ -24,25 +24,25 @@ use Rattle.tree.proofs.Shrinking.{Smaller, smaller, headed}
 
 module _ {P R : Type 0} (m : Model P R) where
   held-open : {ns : List (Node P R)} {root to-left : ℕ} (t : Tree P R) → TreeAt ns root t → 0 < root
-      → to-left ≡ leftOf (at ns root) → (place : P) × Opened root place to-left (rightOf (at ns root)) t
+      → to-left ≡ left-child (at ns root) → (place : P) × Opened root place to-left (right-child (at ns root)) t
   held-open leaf y pos left-is = absurd (omega (arith, y .root-is))
   held-open {ns} (node l s p v r) y pos left-is = (
     p,
     opened m ns (node l s p v r) pos (y .root-is) (y .held)
-        (ap (λ i. placeOf (at ns i)) (y .root-is) ∙ ap placeOf (y .held .0)) left-is refl,
+        (ap (λ i. held-place (at ns i)) (y .root-is) ∙ ap held-place (y .held .0)) left-is refl,
   )
 
   module _ {ns : List (Node P R)} {root : ℕ} {t : Tree P R} (y : TreeAt ns root t) where
     pub tree-root : 0 < root → (0 < root) × (root < length ns)
     tree-root pos = (pos, rw (y .root-is) (holds-root ns t (y .some) (y .held)))
 
-    pub tree-open : {place : P} {to-left to-right : ℕ} → 0 < root → placeOf (at ns root) ≡ Some place
-        → to-left ≡ leftOf (at ns root) → to-right ≡ rightOf (at ns root) → Opened root place to-left to-right t
+    pub tree-open : {place : P} {to-left to-right : ℕ} → 0 < root → held-place (at ns root) ≡ Some place
+        → to-left ≡ left-child (at ns root) → to-right ≡ right-child (at ns root) → Opened root place to-left to-right t
     tree-open pos place-is left-is right-is = opened m ns t pos (y .root-is) (y .held) place-is left-is right-is
 
     -- The tree at a root whose left child alone was read.
-    pub tree-open-left : {to-left : ℕ} → 0 < root → to-left ≡ leftOf (at ns root)
-        → (place : P) × Opened root place to-left (rightOf (at ns root)) t
+    pub tree-open-left : {to-left : ℕ} → 0 < root → to-left ≡ left-child (at ns root)
+        → (place : P) × Opened root place to-left (right-child (at ns root)) t
     tree-open-left pos left-is = held-open t y pos left-is
 
     module _ {place : P} {to-left to-right : ℕ} (o : Opened root place to-left to-right t) where
@@ -73,10 +73,10 @@ module _ {P R : Type 0} (m : Model P R) where
             some = y .some;
           }
 
-      pub less-left : (x : ℕ) → countOf (at ns root) ≡ x → countOf (at ns to-left) < x
+      pub less-left : (x : ℕ) → count-of (at ns root) ≡ x → count-of (at ns to-left) < x
       less-left = fewer-left m ns (y .held) (y .balanced) o
 
-      pub less-right : (x : ℕ) → countOf (at ns root) ≡ x → countOf (at ns to-right) < x
+      pub less-right : (x : ℕ) → count-of (at ns root) ≡ x → count-of (at ns to-right) < x
       less-right = fewer-right m ns (y .held) (y .balanced) o
 
       -- After the left tree became u.
@@ -99,10 +99,10 @@ module _ {P R : Type 0} (m : Model P R) where
       tree-child true is = subst (λ i. TreeAt ns i (o .d)) (sym is) tree-left
       tree-child false is = subst (λ i. TreeAt ns i (o .e)) (sym is) tree-right
 
-      pub less-child : (b : Bool) {child : ℕ} → child ≡ cond b to-left to-right → (x : ℕ) → countOf (at ns root) ≡ x
-          → countOf (at ns child) < x
-      less-child true is x e = subst (λ i. countOf (at ns i) < x) (sym is) (less-left x e)
-      less-child false is x e = subst (λ i. countOf (at ns i) < x) (sym is) (less-right x e)
+      pub less-child : (b : Bool) {child : ℕ} → child ≡ cond b to-left to-right → (x : ℕ) → count-of (at ns root) ≡ x
+          → count-of (at ns child) < x
+      less-child true is x e = subst (λ i. count-of (at ns i) < x) (sym is) (less-left x e)
+      less-child false is x e = subst (λ i. count-of (at ns i) < x) (sym is) (less-right x e)
 
       pub child-became : (b : Bool) (u : Tree P R) (n₁ : List (Node P R)) (new : ℕ) {left right : ℕ}
           → left ≡ cond b new to-left → right ≡ cond b to-right new → Smaller (cond b (o .d) (o .e)) u
@@ -130,32 +130,32 @@ module _ {P R : Type 0} (m : Model P R) where
   then-child false l u r k q f h = then-right l u k q f h
 
   -- The first entry, where there is no left tree, and where there is one.
-  pub first-here : (a : Tree P R) (k : ℕ) (q : P) (b : Tree P R) → 0 ≡ rootOf a → (ns : List (Node P R)) → Holds ns a
-      → (headSlot a k ≡ k) × (pull m a k q b ≡ b)
+  pub first-here : (a : Tree P R) (k : ℕ) (q : P) (b : Tree P R) → 0 ≡ root-of a → (ns : List (Node P R)) → Holds ns a
+      → (head-slot a k ≡ k) × (pull m a k q b ≡ b)
   first-here leaf k q b is ns h = (refl, refl)
   first-here (node c i o v d) k q b is ns h = let x = at-some ns i (stored c o v d) (h .0) in absurd (omega arith)
 
-  pub first-left : (a : Tree P R) (k : ℕ) (q : P) (b : Tree P R) → (rootOf a ≡ 0 → ⊥)
-      → (headSlot a k ≡ firstSlot a) × (pull m a k q b ≡ evened m (pulled m a) k q b)
+  pub first-left : (a : Tree P R) (k : ℕ) (q : P) (b : Tree P R) → (root-of a ≡ 0 → ⊥)
+      → (head-slot a k ≡ first-slot a) × (pull m a k q b ≡ evened m (pulled m a) k q b)
   first-left leaf k q b ne = absurd (ne refl)
   first-left (node c i o v d) k q b ne = (refl, refl)
 
   -- The first node below, as it is held.
   head-held : (ns : List (Node P R)) (a : Tree P R) (k : ℕ) (q : P) (v : R) (b : Tree P R) → Holds ns (node a k q v b)
-      → (h : Node P R) × (at ns (headSlot a k) ≡ Some h) × (h .place ≡ headPlace a q)
+      → (h : Node P R) × (at ns (head-slot a k) ≡ Some h) × (h .place ≡ head-place a q)
   head-held ns leaf k q v b held = (stored leaf q v b, held .0, refl)
   head-held ns (node c i o w d) k q v b held = head-held ns c i o w d (held .1)
 
   pub head-in : {ns : List (Node P R)} {right : ℕ} (r : Tree P R) → TreeAt ns right r → 0 < right → (first : ℕ)
-      → first ≡ firstSlot r → (0 < first) × (first < length ns)
+      → first ≡ first-slot r → (0 < first) × (first < length ns)
   head-in leaf y pos first is = absurd (omega (arith, y .root-is))
   head-in {ns} (node a k q v b) y pos first is =
       let h = head-held ns a k q v b (y .held) in
-      let w = at-some ns (headSlot a k) (h .0) (h .1) in
+      let w = at-some ns (head-slot a k) (h .0) (h .1) in
       rw is w
 
   pub fuse-even : {ns : List (Node P R)} {left right : ℕ} (l r : Tree P R) → PairAt ns left right l r → 0 < right
-      → (first : ℕ) → first ≡ firstSlot r → (n₁ : List (Node P R)) (rest : ℕ) → length n₁ ≡ length ns
+      → (first : ℕ) → first ≡ first-slot r → (n₁ : List (Node P R)) (rest : ℕ) → length n₁ ≡ length ns
       → Done ns n₁ rest (pulled m r) → EvenAt n₁ first left rest l (pulled m r)
   fuse-even l leaf y pos first is n₁ rest long f = absurd (omega (arith, y .tree-r .root-is))
   fuse-even {ns} l (node a k q v b) y pos first is n₁ rest long f =
@@ -181,24 +181,24 @@ module _ {P R : Type 0} (m : Model P R) where
       }
 
   pub fuse-end : {ns n₁ n₂ : List (Node P R)} {left right : ℕ} (l r : Tree P R) → PairAt ns left right l r → 0 < right
-      → (first : ℕ) (place : P) → first ≡ firstSlot r → placeOf (at ns first) ≡ Some place → {rest res : ℕ}
+      → (first : ℕ) (place : P) → first ≡ first-slot r → held-place (at ns first) ≡ Some place → {rest res : ℕ}
       → Done ns n₁ rest (pulled m r) → Done n₁ n₂ res (evened m l first place (pulled m r))
       → Done ns n₂ res (fused m l r)
   fuse-end l leaf y pos first place is read f h = absurd (omega (arith, y .tree-r .root-is))
   fuse-end {ns} l (node a k q v b) y pos first place is read f h =
       let e = head-held ns a k q v b (y .tree-r .held) in
-      let found : Some place ≡ Some (e .0 .place) = sym read ∙ ap (λ i. placeOf (at ns i)) is ∙ ap placeOf (e .1) in
-      let same : place ≡ headPlace a q = cc (e .2) in
-      done-at m (ap (λ i. evened m l i (headPlace a q) (pull m a k q b)) (sym is)
+      let found : Some place ≡ Some (e .0 .place) = sym read ∙ ap (λ i. held-place (at ns i)) is ∙ ap held-place (e .1) in
+      let same : place ≡ head-place a q = cc (e .2) in
+      done-at m (ap (λ i. evened m l i (head-place a q) (pull m a k q b)) (sym is)
       ∙ ap (λ o. evened m l first o (pull m a k q b)) (sym same))
       (then-right l (pull m a k q b) first place f h)
 
   pub first-is : {ns : List (Node P R)} {root : ℕ} {t : Tree P R} {place : P} {to-left to-right : ℕ} → TreeAt ns root t
-      → (o : Opened root place to-left to-right t) → (to-left ≡ 0 → ⊥) → (x : ℕ) → x ≡ firstSlot (o .d)
-      → x ≡ firstSlot t
+      → (o : Opened root place to-left to-right t) → (to-left ≡ 0 → ⊥) → (x : ℕ) → x ≡ first-slot (o .d)
+      → x ≡ first-slot t
   first-is {root = root} {place = place} y o ne x is =
       let w = first-left (o .d) root place (o .e) (λ e. ne (o .left-is ∙ e)) in
-      is ∙ sym (w .0) ∙ ap firstSlot (sym (o .is))
+      is ∙ sym (w .0) ∙ ap first-slot (sym (o .is))
 
   pub pulled-is : {ns : List (Node P R)} {root : ℕ} {t : Tree P R} {place : P} {to-left to-right : ℕ} → TreeAt ns root t
       → (o : Opened root place to-left to-right t) → (to-left ≡ 0 → ⊥)

@@ -11,34 +11,34 @@ use Rattle.tree.specs.Tree.{Tree, leaf, node, size, times, stored, Holds}
 use Rattle.tree.specs.Contracted.{one}
 use Rattle.tree.proofs.Held.{at-some}
 
-abbrev sumTo : ℕ → (ℕ → ℕ) → ℕ
-sumTo zero f = 0
-sumTo (suc n) f = f n + sumTo n f
+abbrev sum-to : ℕ → (ℕ → ℕ) → ℕ
+sum-to zero f = 0
+sum-to (suc n) f = f n + sum-to n f
 
-sum-zero : (n : ℕ) (f : ℕ → ℕ) → ((j : ℕ) → j < n → f j ≡ 0) → sumTo n f ≡ 0
+sum-zero : (n : ℕ) (f : ℕ → ℕ) → ((j : ℕ) → j < n → f j ≡ 0) → sum-to n f ≡ 0
 sum-zero zero f h = refl
 sum-zero (suc n) f h = let a = h n (omega arith) in let b = sum-zero n f (λ j lt. h j (omega arith)) in omega arith
 
-sum-one : (n s : ℕ) → s < n → sumTo n (λ j. one j s) ≡ 1
+sum-one : (n s : ℕ) → s < n → sum-to n (λ j. one j s) ≡ 1
 sum-one zero s lt = absurd (omega arith)
 sum-one (suc n) s lt = go (ℕ-discrete n s) (sum-one n s)
   where
-    go : Dec (n ≡ s) → (s < n → sumTo n (λ j. one j s) ≡ 1) → one n s + sumTo n (λ j. one j s) ≡ 1
+    go : Dec (n ≡ s) → (s < n → sum-to n (λ j. one j s) ≡ 1) → one n s + sum-to n (λ j. one j s) ≡ 1
     go (yes e) ih =
         let a : one n s ≡ 1 = grind (arith, tells) in
         let b = sum-zero n (λ j. one j s) (λ j h. grind (arith, tells)) in
         omega arith
     go (no e) ih = let a : one n s ≡ 0 = grind (arith, tells) in let b = ih (omega arith) in omega arith
 
-sum-add : (n : ℕ) (f g : ℕ → ℕ) → sumTo n (λ j. f j + g j) ≡ sumTo n f + sumTo n g
+sum-add : (n : ℕ) (f g : ℕ → ℕ) → sum-to n (λ j. f j + g j) ≡ sum-to n f + sum-to n g
 sum-add zero f g = refl
 sum-add (suc n) f g = let a = sum-add n f g in omega arith
 
-sum-le : (n : ℕ) (f : ℕ → ℕ) → ((j : ℕ) → f j ≤ 1) → f 0 ≡ 0 → sumTo (suc n) f ≤ n
+sum-le : (n : ℕ) (f : ℕ → ℕ) → ((j : ℕ) → f j ≤ 1) → f 0 ≡ 0 → sum-to (suc n) f ≤ n
 sum-le zero f h z = omega arith
 sum-le (suc n) f h z = let a = sum-le n f h z in omega (arith, h (suc n))
 
-sum-cap : (n : ℕ) (f : ℕ → ℕ) → ((j : ℕ) → f j ≤ 1) → f 0 ≡ 0 → ((j : ℕ) → 4096 ≤ j → f j ≡ 0) → sumTo n f ≤ 4095
+sum-cap : (n : ℕ) (f : ℕ → ℕ) → ((j : ℕ) → f j ≤ 1) → f 0 ≡ 0 → ((j : ℕ) → 4096 ≤ j → f j ≡ 0) → sum-to n f ≤ 4095
 sum-cap zero f h z far = omega arith
 sum-cap (suc n) f h z far =
     elim (decLt n 4096) [
@@ -48,7 +48,7 @@ sum-cap (suc n) f h z far =
     ]
 
 module _ {P R : Type 0} (ns : List (Node P R)) where
-  sum-times : (t : Tree P R) → Holds ns t → sumTo (length ns) (λ j. times j t) ≡ size t
+  sum-times : (t : Tree P R) → Holds ns t → sum-to (length ns) (λ j. times j t) ≡ size t
   sum-times leaf h = sum-zero (length ns) (λ j. 0) (λ j lt. refl)
   sum-times (node l s p v r) h =
       let a = sum-times l (h .1) in

@@ -11,10 +11,10 @@ use Rattle.std.proofs.shelf.Ways.{tells}
 use Rattle.std.specs.declared.option.Option.{Option}
 use Rattle.std.specs.declared.option.Option.the-variants.{Some, None}
 use Rattle.tree.specs.declared.node.Node.{Node}
-use Rattle.tree.specs.Slots.{at, tallOf, countOf}
-use Rattle.tree.specs.Tree.{Tree, leaf, node, rootOf, tall, size, times, stored, Balanced, Holds}
+use Rattle.tree.specs.Slots.{at, height-of, count-of}
+use Rattle.tree.specs.Tree.{Tree, leaf, node, root-of, tall, size, times, stored, Balanced, Holds}
 use Rattle.tree.specs.Contracted.{one}
-use Rattle.tree.specs.Whole.{orElse, all, mark, readTree, treeIn, tidy, sound, shaped, ShapeAt}
+use Rattle.tree.specs.Whole.{or-else, all, mark, read-tree, tree-in, tidy, sound, shaped, ShapeAt}
 use Rattle.tree.proofs.Held.{at-some, holds-tall, holds-size}
 use Rattle.tree.proofs.Room.{few-nodes}
 use Rattle.tree.proofs.Balance.{low}
@@ -45,24 +45,24 @@ all-made zero f h = refl
 all-made (suc n) f h = and (f n) (all n f) (h n (omega arith)) (all-made n f (λ j lt. h j (omega arith)))
 
 module _ {P R : Type 0} where
-  read-is : (n : ℕ) (ns : List (Node P R)) (t : Tree P R) → tall t < n → Holds ns t → readTree n ns (rootOf t) ≡ t
+  read-is : (n : ℕ) (ns : List (Node P R)) (t : Tree P R) → tall t < n → Holds ns t → read-tree n ns (root-of t) ≡ t
   read-is zero ns t lt h = absurd (omega arith)
   read-is (suc n) ns leaf lt h = refl
   read-is (suc n) ns (node l s p v r) lt h =
       let a = read-is n ns l (omega arith) (h .1) in
       let b = read-is n ns r (omega arith) (h .2) in
-      ap (λ o. orElse o leaf (λ x. node (readTree n ns (x .left)) s (x .place) (x .join) (readTree n ns (x .right))))
+      ap (λ o. or-else o leaf (λ x. node (read-tree n ns (x .left)) s (x .place) (x .join) (read-tree n ns (x .right))))
       (h .0)
       ∙ ap₂ (λ u w. node u s p v w) a b
 
-  pub tree-is : (ns : List (Node P R)) (root : ℕ) (t : Tree P R) → root ≡ rootOf t → tall t < 17 → Holds ns t
-      → treeIn ns root ≡ t
-  unfolding treeIn
-  tree-is ns root t is lt h = ap (readTree 32 ns) is ∙ read-is 32 ns t (omega arith) h
+  pub tree-is : (ns : List (Node P R)) (root : ℕ) (t : Tree P R) → root ≡ root-of t → tall t < 17 → Holds ns t
+      → tree-in ns root ≡ t
+  unfolding tree-in
+  tree-is ns root t is lt h = ap (read-tree 32 ns) is ∙ read-is 32 ns t (omega arith) h
 
   -- What the check of the tree says.
   record Read (ns : List (Node P R)) (i : ℕ) (t : Tree P R) : Type 0 where
-    root-is : i ≡ rootOf t
+    root-is : i ≡ root-of t
     held : Holds ns t
     balanced : Balanced t
 
@@ -77,19 +77,19 @@ module _ {P R : Type 0} where
 
   read-node : (ns : List (Node P R)) (i : ℕ) (x : Node P R) (l r : Tree P R) → at ns i ≡ Some x → Read ns (x .left) l
       → Read ns (x .right) r
-      → tidy (tallOf (at ns (x .left))) (tallOf (at ns (x .right))) (countOf (at ns (x .left)))
-      (countOf (at ns (x .right))) x ≡ true
+      → tidy (height-of (at ns (x .left))) (height-of (at ns (x .right))) (count-of (at ns (x .left)))
+      (count-of (at ns (x .right))) x ≡ true
       → Read ns i (node l i (x .place) (x .join) r)
   read-node ns i x l r is yl yr h =
-      let w = tidy-says (tallOf (at ns (x .left))) (tallOf (at ns (x .right))) (countOf (at ns (x .left)))
-      (countOf (at ns (x .right))) x h in
-      let tl : tallOf (at ns (x .left)) ≡ tall l = ap (λ j. tallOf (at ns j)) (yl .root-is)
+      let w = tidy-says (height-of (at ns (x .left))) (height-of (at ns (x .right))) (count-of (at ns (x .left)))
+      (count-of (at ns (x .right))) x h in
+      let tl : height-of (at ns (x .left)) ≡ tall l = ap (λ j. height-of (at ns j)) (yl .root-is)
       ∙ holds-tall ns l (yl .held) in
-      let tr : tallOf (at ns (x .right)) ≡ tall r = ap (λ j. tallOf (at ns j)) (yr .root-is)
+      let tr : height-of (at ns (x .right)) ≡ tall r = ap (λ j. height-of (at ns j)) (yr .root-is)
       ∙ holds-tall ns r (yr .held) in
-      let sl : countOf (at ns (x .left)) ≡ size l = ap (λ j. countOf (at ns j)) (yl .root-is)
+      let sl : count-of (at ns (x .left)) ≡ size l = ap (λ j. count-of (at ns j)) (yl .root-is)
       ∙ holds-size ns l (yl .held) in
-      let sr : countOf (at ns (x .right)) ≡ size r = ap (λ j. countOf (at ns j)) (yr .root-is)
+      let sr : count-of (at ns (x .right)) ≡ size r = ap (λ j. count-of (at ns j)) (yr .root-is)
       ∙ holds-size ns r (yr .held) in
       let e₁ : x .height ≡ 1 + max (tall l) (tall r) = omega arith in
       let e₂ : x .count ≡ 1 + size l + size r = omega arith in
@@ -104,27 +104,27 @@ module _ {P R : Type 0} where
             (yl .balanced, yr .balanced, omega arith, omega arith);
       }
 
-  read-sound : (n : ℕ) (ns : List (Node P R)) (i : ℕ) → sound n ns i ≡ true → Read ns i (readTree n ns i)
+  read-sound : (n : ℕ) (ns : List (Node P R)) (i : ℕ) → sound n ns i ≡ true → Read ns i (read-tree n ns i)
   read-sound zero ns i h = record { root-is = grind (arith, tells); held = tt; balanced = tt }
   read-sound (suc n) ns i h = go (at ns i) refl h (λ k. read-sound n ns k)
     where
       go : (o : Option (Node P R)) → at ns i ≡ o
-          → orElse o (eqb i 0) (λ x. tidy (tallOf (at ns (x .left))) (tallOf (at ns (x .right)))
-          (countOf (at ns (x .left))) (countOf (at ns (x .right))) x &&
+          → or-else o (eqb i 0) (λ x. tidy (height-of (at ns (x .left))) (height-of (at ns (x .right)))
+          (count-of (at ns (x .left))) (count-of (at ns (x .right))) x &&
           (sound n ns (x .left) && sound n ns (x .right))) ≡ true
-          → ((k : ℕ) → sound n ns k ≡ true → Read ns k (readTree n ns k))
-          → Read ns i (orElse o leaf
-          (λ x. node (readTree n ns (x .left)) i (x .place) (x .join) (readTree n ns (x .right))))
+          → ((k : ℕ) → sound n ns k ≡ true → Read ns k (read-tree n ns k))
+          → Read ns i (or-else o leaf
+          (λ x. node (read-tree n ns (x .left)) i (x .place) (x .join) (read-tree n ns (x .right))))
       go None is w ih = record { root-is = grind (arith, tells); held = tt; balanced = tt }
       go (Some x) is w ih =
-          let a = both (tidy (tallOf (at ns (x .left))) (tallOf (at ns (x .right))) (countOf (at ns (x .left)))
-          (countOf (at ns (x .right))) x) (sound n ns (x .left) && sound n ns (x .right)) w in
+          let a = both (tidy (height-of (at ns (x .left))) (height-of (at ns (x .right))) (count-of (at ns (x .left)))
+          (count-of (at ns (x .right))) x) (sound n ns (x .left) && sound n ns (x .right)) w in
           let b = both (sound n ns (x .left)) (sound n ns (x .right)) (a .1) in
-          read-node ns i x (readTree n ns (x .left)) (readTree n ns (x .right)) is (ih (x .left) (b .0))
+          read-node ns i x (read-tree n ns (x .left)) (read-tree n ns (x .right)) is (ih (x .left) (b .0))
           (ih (x .right) (b .1)) (a .0)
 
   sound-held : (n : ℕ) (ns : List (Node P R)) (t : Tree P R) → tall t ≤ n → Holds ns t → Balanced t
-      → sound n ns (rootOf t) ≡ true
+      → sound n ns (root-of t) ≡ true
   sound-held zero ns leaf le h b = refl
   sound-held zero ns (node l s p v r) le h b = absurd (omega arith)
   sound-held (suc n) ns leaf le h b = refl
@@ -134,15 +134,15 @@ module _ {P R : Type 0} where
       let tr = holds-tall ns r (h .2) in
       let sl = holds-size ns l (h .1) in
       let sr = holds-size ns r (h .2) in
-      let e₁ : eqb (1 + max (tall l) (tall r)) (1 + max (tallOf (at ns (rootOf l))) (tallOf (at ns (rootOf r))))
+      let e₁ : eqb (1 + max (tall l) (tall r)) (1 + max (height-of (at ns (root-of l))) (height-of (at ns (root-of r))))
       ≡ true = grind (arith, tells) in
-      let e₂ : eqb (1 + size l + size r) (1 + countOf (at ns (rootOf l)) + countOf (at ns (rootOf r))) ≡ true = grind
+      let e₂ : eqb (1 + size l + size r) (1 + count-of (at ns (root-of l)) + count-of (at ns (root-of r))) ≡ true = grind
       (arith, tells) in
-      let e₃ : leb (tallOf (at ns (rootOf l))) (1 + tallOf (at ns (rootOf r))) ≡ true = grind (arith, tells) in
-      let e₄ : leb (tallOf (at ns (rootOf r))) (1 + tallOf (at ns (rootOf l))) ≡ true = grind (arith, tells) in
-      ap (λ o. orElse o (eqb s 0)
-      (λ x. tidy (tallOf (at ns (x .left))) (tallOf (at ns (x .right))) (countOf (at ns (x .left)))
-      (countOf (at ns (x .right))) x && (sound n ns (x .left) && sound n ns (x .right)))) (h .0)
+      let e₃ : leb (height-of (at ns (root-of l))) (1 + height-of (at ns (root-of r))) ≡ true = grind (arith, tells) in
+      let e₄ : leb (height-of (at ns (root-of r))) (1 + height-of (at ns (root-of l))) ≡ true = grind (arith, tells) in
+      ap (λ o. or-else o (eqb s 0)
+      (λ x. tidy (height-of (at ns (x .left))) (height-of (at ns (x .right))) (count-of (at ns (x .left)))
+      (count-of (at ns (x .right))) x && (sound n ns (x .left) && sound n ns (x .right)))) (h .0)
       ∙ and _ _ (and _ _ e₁ (and _ _ e₂ (and _ _ e₃ e₄)))
       (and _ _ (sound-held n ns l (omega arith) (h .1) (b .0)) (sound-held n ns r (omega arith) (h .2) (b .1)))
 
@@ -155,10 +155,10 @@ module _ {P R : Type 0} where
       let d : one j s ≡ 0 = grind (arith, tells) in
       omega arith
 
-  pub count-past : (ns : List (Node P R)) (j : ℕ) → length ns ≤ j → countOf (at ns j) ≡ 0
+  pub count-past : (ns : List (Node P R)) (j : ℕ) → length ns ≤ j → count-of (at ns j) ≡ 0
   count-past ns j le = go (at ns j) refl
     where
-      go : (o : Option (Node P R)) → at ns j ≡ o → countOf o ≡ 0
+      go : (o : Option (Node P R)) → at ns j ≡ o → count-of o ≡ 0
       go None is = refl
       go (Some x) is = let w = at-some ns j x is in absurd (omega arith)
 
@@ -172,19 +172,19 @@ module _ {P R : Type 0} where
   mark-high ns j le = grind (arith, tells)
 
   -- The check says that the tree is in shape.
-  pub shape-of : (ns : List (Node P R)) (root : ℕ) → shaped ns root ≡ true → ShapeAt ns root (treeIn ns root)
-  unfolding shaped treeIn
+  pub shape-of : (ns : List (Node P R)) (root : ℕ) → shaped ns root ≡ true → ShapeAt ns root (tree-in ns root)
+  unfolding shaped tree-in
   shape-of ns root h =
-      let a = both (sound 32 ns root) (all (length ns) (λ j. eqb (times j (treeIn ns root)) (mark ns j))) h in
+      let a = both (sound 32 ns root) (all (length ns) (λ j. eqb (times j (tree-in ns root)) (mark ns j))) h in
       let y = read-sound 32 ns root (a .0) in
       record {
         root-is = y .root-is;
         held = y .held;
         balanced = y .balanced;
         marked = λ j. elim (decLt j (length ns)) [
-          | yes lt ↦ same (times j (readTree 32 ns root)) (mark ns j)
-              (all-at (length ns) (λ i. eqb (times i (readTree 32 ns root)) (mark ns i)) (a .1) j lt)
-          | no ge ↦ times-past ns (readTree 32 ns root) j (y .held) (omega arith) ∙ sym (mark-past ns j (omega arith))
+          | yes lt ↦ same (times j (read-tree 32 ns root)) (mark ns j)
+              (all-at (length ns) (λ i. eqb (times i (read-tree 32 ns root)) (mark ns i)) (a .1) j lt)
+          | no ge ↦ times-past ns (read-tree 32 ns root) j (y .held) (omega arith) ∙ sym (mark-past ns j (omega arith))
         ];
       }
 
@@ -193,7 +193,7 @@ module _ {P R : Type 0} where
       few-nodes ns t (y .held) (λ j. omega (arith, y .marked j, mark-one ns j))
       (λ j le. y .marked j ∙ mark-high ns j le)
 
-  pub shape-tree : (ns : List (Node P R)) (root : ℕ) (t : Tree P R) → ShapeAt ns root t → treeIn ns root ≡ t
+  pub shape-tree : (ns : List (Node P R)) (root : ℕ) (t : Tree P R) → ShapeAt ns root t → tree-in ns root ≡ t
   shape-tree ns root t y = tree-is ns root t (y .root-is) (low t (y .balanced) (shape-few ns root t y)) (y .held)
 
   -- A tree in shape passes the check.
@@ -203,8 +203,8 @@ module _ {P R : Type 0} where
       let lo = low t (y .balanced) (shape-few ns root t y) in
       let a : sound 32 ns root ≡ true = ap (sound 32 ns) (y .root-is)
       ∙ sound-held 32 ns t (omega arith) (y .held) (y .balanced) in
-      let b : all (length ns) (λ j. eqb (times j (treeIn ns root)) (mark ns j)) ≡ true = all-made (length ns) _
-      (λ j lt. tests-same (times j (treeIn ns root)) (mark ns j)
+      let b : all (length ns) (λ j. eqb (times j (tree-in ns root)) (mark ns j)) ≡ true = all-made (length ns) _
+      (λ j lt. tests-same (times j (tree-in ns root)) (mark ns j)
       (ap (times j) (shape-tree ns root t y) ∙ y .marked j)) in
       and (sound 32 ns root) _ a b
 

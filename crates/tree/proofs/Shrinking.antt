@@ -8,9 +8,9 @@ use native.Mathlib.Omega.{arith}
 use native.Mathlib.Decide.{decLe}
 use lib.Dec.{eqb}
 use Rattle.kinds.specs.Rules.{Model}
-use Rattle.tree.specs.Tree.{Tree, leaf, node, tall, size, rowOf, times, Balanced, Joined}
+use Rattle.tree.specs.Tree.{Tree, leaf, node, tall, size, row-of, times, Balanced, Joined}
 use Rattle.buckets.specs.Rows.{entry, ahead}
-use Rattle.tree.specs.Shapes.{evened, headSlot, headPlace, pull, fused, shrunk}
+use Rattle.tree.specs.Shapes.{evened, head-slot, head-place, pull, fused, shrunk}
 use Rattle.tree.specs.Contracted.{one}
 use Rattle.tree.proofs.Balance.{same-even, joined-even, even-tall}
 
@@ -55,8 +55,8 @@ module _ {P R : Type 0} (m : Model P R) where
   -- A node without its first entry.
   pub record Headed (a : Tree P R) (k : ℕ) (q : P) (v : R) (b : Tree P R) : Type 0 where
     pub smaller : Smaller (node a k q v b) (pull m a k q b)
-    pub rows : rowOf (node a k q v b) ≡ entry (headSlot a k) (headPlace a q) ∷ rowOf (pull m a k q b)
-    pub slots : (j : ℕ) → times j (node a k q v b) ≡ one j (headSlot a k) + times j (pull m a k q b)
+    pub rows : row-of (node a k q v b) ≡ entry (head-slot a k) (head-place a q) ∷ row-of (pull m a k q b)
+    pub slots : (j : ℕ) → times j (node a k q v b) ≡ one j (head-slot a k) + times j (pull m a k q b)
     pub sizes : size (node a k q v b) ≡ 1 + size (pull m a k q b)
 
   pub headed : (a : Tree P R) (k : ℕ) (q : P) (v : R) (b : Tree P R) → Balanced (node a k q v b) → Headed a k q v b
@@ -79,8 +79,8 @@ module _ {P R : Type 0} (m : Model P R) where
       let x = same-even m (pull m a i o c) k q b in
       record {
         smaller = smaller-left (node a i o w c) (pull m a i o c) k q v b h (ih .smaller);
-        rows = ap (λ z. z ++ (entry k q ∷ rowOf b)) (ih .rows)
-            ∙ ap (λ z. entry (headSlot a i) (headPlace a o) ∷ z) (sym (x .rows));
+        rows = ap (λ z. z ++ (entry k q ∷ row-of b)) (ih .rows)
+            ∙ ap (λ z. entry (head-slot a i) (head-place a o) ∷ z) (sym (x .rows));
         slots = λ j. omega (arith, ih .slots j, x .slots j);
         sizes = omega (arith, ih .sizes, x .sizes);
       }
@@ -88,7 +88,7 @@ module _ {P R : Type 0} (m : Model P R) where
   -- Two trees made one.
   pub record Fused (l r : Tree P R) (k : ℕ) (q : P) (v : R) (t : Tree P R) : Type 0 where
     pub smaller : Smaller (node l k q v r) t
-    pub rows : rowOf t ≡ rowOf l ++ rowOf r
+    pub rows : row-of t ≡ row-of l ++ row-of r
     pub slots : (j : ℕ) → times j t ≡ times j l + times j r
     pub sizes : size t ≡ size l + size r
 
@@ -103,15 +103,15 @@ module _ {P R : Type 0} (m : Model P R) where
           sizes =
               omega arith;
         };
-        rows = sym (append-nil (rowOf l));
+        rows = sym (append-nil (row-of l));
         slots = λ j. omega arith;
         sizes = omega arith;
       }
   fuses l (node a i o w b) k q v h =
       let ih = headed a i o w b (h .1) in
       let w₀ = smaller-right l k q v (node a i o w b) (pull m a i o b) h (ih .smaller) in
-      let w′ = smaller-right l (headSlot a i) (headPlace a o) v (node a i o w b) (pull m a i o b) h (ih .smaller) in
-      let x = same-even m l (headSlot a i) (headPlace a o) (pull m a i o b) in
+      let w′ = smaller-right l (head-slot a i) (head-place a o) v (node a i o w b) (pull m a i o b) h (ih .smaller) in
+      let x = same-even m l (head-slot a i) (head-place a o) (pull m a i o b) in
       record {
         smaller = record {
           balanced = w′ .balanced;
@@ -121,7 +121,7 @@ module _ {P R : Type 0} (m : Model P R) where
               (arith, ih .slots j, x .slots j);
           sizes = omega (arith, ih .sizes, x .sizes);
         };
-        rows = x .rows ∙ ap (λ z. rowOf l ++ z) (sym (ih .rows));
+        rows = x .rows ∙ ap (λ z. row-of l ++ z) (sym (ih .rows));
         slots = λ j. omega (arith, ih .slots j, x .slots j);
         sizes = omega (arith, ih .sizes, x .sizes);
       }
@@ -147,7 +147,7 @@ module _ {P R : Type 0} (m : Model P R) where
   joined-fused : (l r : Tree P R) → Joined m l → Joined m r → Joined m (fused m l r)
   joined-fused l leaf x y = x
   joined-fused l (node a k q v b) x y =
-      joined-even m l (headSlot a k) (headPlace a q) (pull m a k q b) x (joined-pull a k q b (y .0) (y .1))
+      joined-even m l (head-slot a k) (head-place a q) (pull m a k q b) x (joined-pull a k q b (y .0) (y .1))
 
   pub joined-shrunk : (p : P) (s : ℕ) (t : Tree P R) → Joined m t → Joined m (shrunk m p s t)
   joined-shrunk p s leaf h = tt

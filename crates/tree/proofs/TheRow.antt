@@ -10,9 +10,9 @@ use Rattle.std.specs.declared.option.Option.the-variants.{Some}
 use Rattle.kinds.specs.Rules.{Model}
 use Rattle.buckets.specs.Rows.{Entry, entry, In, here, later, row, IsRow, PlacesAdmitted, RowLaws}
 use Rattle.tree.specs.declared.node.Node.{Node}
-use Rattle.tree.specs.Tree.{Tree, rowOf, times}
+use Rattle.tree.specs.Tree.{Tree, row-of, times}
 use Rattle.tree.specs.Rows.{often, find}
-use Rattle.tree.specs.Whole.{capacity, placeIn, OrderlyAt, ShapeAt}
+use Rattle.tree.specs.Whole.{capacity, place-in, OrderlyAt, ShapeAt}
 use Rattle.tree.proofs.Held.{at-some}
 use Rattle.tree.proofs.Order.{in-often, often-row}
 use Rattle.tree.proofs.Shape.{mark-one}
@@ -30,25 +30,25 @@ module _ {P : Type 0} where
 
 module _ {P R : Type 0} (m : Model P R) (ns : List (Node P R)) (root : ℕ) (t : Tree P R) (y : ShapeAt ns root t)
     (o : OrderlyAt m t) where
-  present-in : (n : ℕ) (p : P) → placeIn ns n ≡ Some p → In (entry n p) (rowOf t)
-  present-in n p is = in-found n p (rowOf t) (sym (view-row ns root t y n) ∙ is)
+  present-in : (n : ℕ) (p : P) → place-in ns n ≡ Some p → In (entry n p) (row-of t)
+  present-in n p is = in-found n p (row-of t) (sym (view-row ns root t y n) ∙ is)
 
-  stands : (e : Entry P) → In e (rowOf t) → 0 < times (e .set) t
+  stands : (e : Entry P) → In e (row-of t) → 0 < times (e .set) t
   stands e i = omega (arith, in-often i, often-row (e .set) t)
 
-  in-present : (e : Entry P) → In e (rowOf t) → placeIn ns (e .set) ≡ Some (e .place)
+  in-present : (e : Entry P) → In e (row-of t) → place-in ns (e .set) ≡ Some (e .place)
   in-present e i =
       view-row ns root t y (e .set)
       ∙ found-in i (omega (arith, often-row (e .set) t, y .marked (e .set), mark-one ns (e .set)))
 
-  in-range : (e : Entry P) → In e (rowOf t) → (1 ≤ e .set) × (e .set ≤ capacity ns)
+  in-range : (e : Entry P) → In e (row-of t) → (1 ≤ e .set) × (e .set ≤ capacity ns)
   in-range e i =
       let w = held-at ns t (e .set) (y .held) (stands e i) in
       let a = at-some ns (e .set) (w .0) (w .1) in
       let b : e .set < 4096 = mark-low ns (e .set) (omega (arith, stands e i, y .marked (e .set))) in
       (omega arith, omega arith)
 
-  is-row : IsRow m (placeIn ns) (capacity ns) (rowOf t)
+  is-row : IsRow m (place-in ns) (capacity ns) (row-of t)
   is-row =
       record {
         sorted = o .sorted;
@@ -56,8 +56,8 @@ module _ {P R : Type 0} (m : Model P R) (ns : List (Node P R)) (root : ℕ) (t :
         only = λ e i. (in-range e i .0, (in-range e i .1, in-present e i));
       }
 
-  places-admitted : PlacesAdmitted m (placeIn ns)
+  places-admitted : PlacesAdmitted m (place-in ns)
   places-admitted n p is = o .admitted (entry n p) (present-in n p is)
 
-  pub the-row : RowLaws m → rowOf t ≡ row m (placeIn ns) (capacity ns)
-  the-row laws = laws .one-row (placeIn ns) (capacity ns) (rowOf t) places-admitted is-row
+  pub the-row : RowLaws m → row-of t ≡ row m (place-in ns) (capacity ns)
+  the-row laws = laws .one-row (place-in ns) (capacity ns) (row-of t) places-admitted is-row

@@ -11,7 +11,7 @@ use Rattle.std.specs.declared.option.Option.the-variants.{Some}
 use Rattle.std.specs.Finite.{nth}
 use Rattle.std.proofs.shelf.Ways.{tells}
 use Rattle.kinds.specs.Rules.{Model}
-use Rattle.tree.specs.Tree.{Tree, leaf, node, rowOf, size, times, Balanced}
+use Rattle.tree.specs.Tree.{Tree, leaf, node, row-of, size, times, Balanced}
 use Rattle.tree.specs.Shapes.{evened, fused, shrunk, ranked}
 use Rattle.tree.specs.Rows.{often, without}
 use Rattle.buckets.specs.Rows.{Entry, entry, In, ahead, Sorted, AllAdmitted, AheadLaws}
@@ -37,12 +37,12 @@ module _ {P : Type 0} where
       go false ih = ap (λ z. x ∷ z) ih
 
 module _ {P R : Type 0} where
-  pub length-row : (t : Tree P R) → length (rowOf t) ≡ size t
+  pub length-row : (t : Tree P R) → length (row-of t) ≡ size t
   length-row leaf = refl
   length-row (node l s p v r) =
       let a = length-row l in
       let b = length-row r in
-      omega (arith, length-append (rowOf l) (entry s p ∷ rowOf r))
+      omega (arith, length-append (row-of l) (entry s p ∷ row-of r))
 
 module _ {P : Type 0} where
   nth-left : (xs ys : List (Entry P)) (i : ℕ) (e : Entry P) → nth xs i ≡ Some e → nth (xs ++ ys) i ≡ Some e
@@ -77,12 +77,12 @@ module _ {P R : Type 0} (m : Model P R) (laws : AheadLaws m) where
     abbrev it : Entry P
     it = entry s p
 
-    pub row-shrunk : (t : Tree P R) → Balanced t → ((j : ℕ) → times j t ≤ 1) → Sorted m (rowOf t)
-        → AllAdmitted m (rowOf t) → In it (rowOf t) → rowOf (shrunk m p s t) ≡ without s (rowOf t)
+    pub row-shrunk : (t : Tree P R) → Balanced t → ((j : ℕ) → times j t ≤ 1) → Sorted m (row-of t)
+        → AllAdmitted m (row-of t) → In it (row-of t) → row-of (shrunk m p s t) ≡ without s (row-of t)
     row-shrunk leaf b u h a has = refl
     row-shrunk (node l k q v r) b u h a has =
-        let w = around m (rowOf l) (entry k q) (rowOf r) h in
-        let z = admitted-around m (rowOf l) (entry k q) (rowOf r) a in
+        let w = around m (row-of l) (entry k q) (row-of r) h in
+        let z = admitted-around m (row-of l) (entry k q) (row-of r) a in
         go (eqb s k) refl (ahead m (entry s p) (entry k q)) refl w z
         (row-shrunk l (b .0) (λ j. omega (arith, u j)) (w .sorted-l) (z .left))
         (row-shrunk r (b .1) (λ j. omega (arith, u j)) (w .sorted-r) (z .right))
@@ -91,40 +91,40 @@ module _ {P R : Type 0} (m : Model P R) (laws : AheadLaws m) where
         f = entry k q
 
         cut : (c : Bool) → eqb s k ≡ c
-            → without s (rowOf l ++ (f ∷ rowOf r)) ≡ without s (rowOf l) ++ cond c (without s (rowOf r))
-            (f ∷ without s (rowOf r))
+            → without s (row-of l ++ (f ∷ row-of r)) ≡ without s (row-of l) ++ cond c (without s (row-of r))
+            (f ∷ without s (row-of r))
         cut c is =
-            without-append s (rowOf l) (f ∷ rowOf r)
-            ∙ ap (λ z. without s (rowOf l) ++ cond z (without s (rowOf r)) (f ∷ without s (rowOf r))) is
+            without-append s (row-of l) (f ∷ row-of r)
+            ∙ ap (λ z. without s (row-of l) ++ cond z (without s (row-of r)) (f ∷ without s (row-of r))) is
 
-        go : (c : Bool) → eqb s k ≡ c → (d : Bool) → ahead m (entry s p) f ≡ d → Around m (rowOf l) f (rowOf r)
-            → AdmittedAround m (rowOf l) f (rowOf r) → (In it (rowOf l) → rowOf (shrunk m p s l) ≡ without s (rowOf l))
-            → (In it (rowOf r) → rowOf (shrunk m p s r) ≡ without s (rowOf r))
-            → rowOf (cond c (fused m l r) (cond d (evened m (shrunk m p s l) k q r) (evened m l k q (shrunk m p s r))))
-            ≡ without s (rowOf l ++ (f ∷ rowOf r))
+        go : (c : Bool) → eqb s k ≡ c → (d : Bool) → ahead m (entry s p) f ≡ d → Around m (row-of l) f (row-of r)
+            → AdmittedAround m (row-of l) f (row-of r) → (In it (row-of l) → row-of (shrunk m p s l) ≡ without s (row-of l))
+            → (In it (row-of r) → row-of (shrunk m p s r) ≡ without s (row-of r))
+            → row-of (cond c (fused m l r) (cond d (evened m (shrunk m p s l) k q r) (evened m l k q (shrunk m p s r))))
+            ≡ without s (row-of l ++ (f ∷ row-of r))
         go true is d id w z x y =
             let w₁ = fuses m l r k q v b in
-            let zl : often s (rowOf l) ≡ 0 = often-row s l ∙ grind (arith, tells, u s) in
-            let zr : often s (rowOf r) ≡ 0 = often-row s r ∙ grind (arith, tells, u s) in
-            w₁ .rows ∙ ap₂ _++_ (sym (without-none s (rowOf l) zl)) (sym (without-none s (rowOf r) zr))
+            let zl : often s (row-of l) ≡ 0 = often-row s l ∙ grind (arith, tells, u s) in
+            let zr : often s (row-of r) ≡ 0 = often-row s r ∙ grind (arith, tells, u s) in
+            w₁ .rows ∙ ap₂ _++_ (sym (without-none s (row-of l) zl)) (sym (without-none s (row-of r) zr))
             ∙ sym (cut true is)
         go false is true id w z x y =
-            let has-l = side m laws it f (rowOf l) (rowOf r) w z has (λ e. grind (arith, tells)) true id in
-            let zr : often s (rowOf r) ≡ 0 = often-row s r ∙ omega (arith, u s, often-row s l, in-often has-l) in
+            let has-l = side m laws it f (row-of l) (row-of r) w z has (λ e. grind (arith, tells)) true id in
+            let zr : often s (row-of r) ≡ 0 = often-row s r ∙ omega (arith, u s, often-row s l, in-often has-l) in
             same-even m (shrunk m p s l) k q r .rows
-            ∙ ap₂ (λ i j. i ++ (f ∷ j)) (x has-l) (sym (without-none s (rowOf r) zr)) ∙ sym (cut false is)
+            ∙ ap₂ (λ i j. i ++ (f ∷ j)) (x has-l) (sym (without-none s (row-of r) zr)) ∙ sym (cut false is)
         go false is false id w z x y =
-            let has-r = side m laws it f (rowOf l) (rowOf r) w z has (λ e. grind (arith, tells)) false id in
-            let zl : often s (rowOf l) ≡ 0 = often-row s l ∙ omega (arith, u s, often-row s r, in-often has-r) in
+            let has-r = side m laws it f (row-of l) (row-of r) w z has (λ e. grind (arith, tells)) false id in
+            let zl : often s (row-of l) ≡ 0 = often-row s l ∙ omega (arith, u s, often-row s r, in-often has-r) in
             same-even m l k q (shrunk m p s r) .rows
-            ∙ ap₂ (λ i j. i ++ (f ∷ j)) (sym (without-none s (rowOf l) zl)) (y has-r) ∙ sym (cut false is)
+            ∙ ap₂ (λ i j. i ++ (f ∷ j)) (sym (without-none s (row-of l) zl)) (y has-r) ∙ sym (cut false is)
 
-    pub ranked-nth : (t : Tree P R) → ((j : ℕ) → times j t ≤ 1) → Sorted m (rowOf t) → AllAdmitted m (rowOf t)
-        → In it (rowOf t) → nth (rowOf t) (ranked m p s t) ≡ Some it
+    pub ranked-nth : (t : Tree P R) → ((j : ℕ) → times j t ≤ 1) → Sorted m (row-of t) → AllAdmitted m (row-of t)
+        → In it (row-of t) → nth (row-of t) (ranked m p s t) ≡ Some it
     ranked-nth leaf u h a has = elim has [ ]
     ranked-nth (node l k q v r) u h a has =
-        let w = around m (rowOf l) (entry k q) (rowOf r) h in
-        let z = admitted-around m (rowOf l) (entry k q) (rowOf r) a in
+        let w = around m (row-of l) (entry k q) (row-of r) h in
+        let z = admitted-around m (row-of l) (entry k q) (row-of r) a in
         go (eqb s k) refl (ahead m (entry s p) (entry k q)) refl w z
         (ranked-nth l (λ j. omega (arith, u j)) (w .sorted-l) (z .left))
         (ranked-nth r (λ j. omega (arith, u j)) (w .sorted-r) (z .right))
@@ -132,23 +132,23 @@ module _ {P R : Type 0} (m : Model P R) (laws : AheadLaws m) where
         f : Entry P
         f = entry k q
 
-        same : eqb s k ≡ true → In it (rowOf l) ⊎ ((it ≡ f) ⊎ In it (rowOf r)) → f ≡ it
+        same : eqb s k ≡ true → In it (row-of l) ⊎ ((it ≡ f) ⊎ In it (row-of r)) → f ≡ it
         same is (inl x) = absurd (grind (arith, tells, u s, often-row s l, in-often x))
         same is (inr (inl x)) = sym x
         same is (inr (inr x)) = absurd (grind (arith, tells, u s, often-row s r, in-often x))
 
-        go : (c : Bool) → eqb s k ≡ c → (d : Bool) → ahead m (entry s p) f ≡ d → Around m (rowOf l) f (rowOf r)
-            → AdmittedAround m (rowOf l) f (rowOf r) → (In it (rowOf l) → nth (rowOf l) (ranked m p s l) ≡ Some it)
-            → (In it (rowOf r) → nth (rowOf r) (ranked m p s r) ≡ Some it)
-            → nth (rowOf l ++ (f ∷ rowOf r)) (cond c (size l) (cond d (ranked m p s l) (size l + 1 + ranked m p s r)))
+        go : (c : Bool) → eqb s k ≡ c → (d : Bool) → ahead m (entry s p) f ≡ d → Around m (row-of l) f (row-of r)
+            → AdmittedAround m (row-of l) f (row-of r) → (In it (row-of l) → nth (row-of l) (ranked m p s l) ≡ Some it)
+            → (In it (row-of r) → nth (row-of r) (ranked m p s r) ≡ Some it)
+            → nth (row-of l ++ (f ∷ row-of r)) (cond c (size l) (cond d (ranked m p s l) (size l + 1 + ranked m p s r)))
             ≡ Some it
         go true is d id w z x y =
-            ap (nth (rowOf l ++ (f ∷ rowOf r))) (sym (length-row l)) ∙ nth-here (rowOf l) f (rowOf r)
-            ∙ ap (λ z. Some z) (same is (in-mid it (rowOf l) f (rowOf r) has))
+            ap (nth (row-of l ++ (f ∷ row-of r))) (sym (length-row l)) ∙ nth-here (row-of l) f (row-of r)
+            ∙ ap (λ z. Some z) (same is (in-mid it (row-of l) f (row-of r) has))
         go false is true id w z x y =
-            nth-left (rowOf l) (f ∷ rowOf r) _ it
-            (x (side m laws it f (rowOf l) (rowOf r) w z has (λ e. grind (arith, tells)) true id))
+            nth-left (row-of l) (f ∷ row-of r) _ it
+            (x (side m laws it f (row-of l) (row-of r) w z has (λ e. grind (arith, tells)) true id))
         go false is false id w z x y =
-            ap (λ n. nth (rowOf l ++ (f ∷ rowOf r)) (n + 1 + ranked m p s r)) (sym (length-row l))
-            ∙ nth-right (rowOf l) f (rowOf r) (ranked m p s r)
-            ∙ y (side m laws it f (rowOf l) (rowOf r) w z has (λ e. grind (arith, tells)) false id)
+            ap (λ n. nth (row-of l ++ (f ∷ row-of r)) (n + 1 + ranked m p s r)) (sym (length-row l))
+            ∙ nth-right (row-of l) f (row-of r) (ranked m p s r)
+            ∙ y (side m laws it f (row-of l) (row-of r) w z has (λ e. grind (arith, tells)) false id)

@@ -8,8 +8,8 @@ use Rattle.std.specs.declared.option.Option.the-variants.{Some}
 use Rattle.std.proofs.shelf.Ways.{tells}
 use Rattle.kinds.specs.Rules.{Model}
 use Rattle.tree.specs.declared.node.Node.{Node}
-use Rattle.tree.specs.Slots.{at, leftOf, rightOf, placeOf, made}
-use Rattle.tree.specs.Tree.{Tree, leaf, node, linked, rootOf, stored, times, Holds}
+use Rattle.tree.specs.Slots.{at, left-child, right-child, held-place, made}
+use Rattle.tree.specs.Tree.{Tree, leaf, node, linked, root-of, stored, times, Holds}
 use Rattle.tree.specs.Contracted.{one, Room, TwoAt, ThreeAt, Done}
 use Rattle.tree.proofs.Held.{nth-set-other, at-nth, at-some, holds-frame, holds-tall, holds-size, holds-root, holds-link}
 
@@ -128,7 +128,7 @@ module _ {P R : Type 0} (m : Model P R) where
 
   -- The middle tree taken apart: s over a and d, k over e and c, and then i over both.
   module _ {ns : List (Node P R)} {s k ia i ic : ℕ} {a d e c : Tree P R} (o : P) (v : R) (id ie : ℕ)
-      (y : ThreeAt ns s k ia i ic a (node d i o v e) c) (is-d : id ≡ rootOf d) (is-e : ie ≡ rootOf e) where
+      (y : ThreeAt ns s k ia i ic a (node d i o v e) c) (is-d : id ≡ root-of d) (is-e : ie ≡ root-of e) where
     pub both-first : TwoAt ns s ia id a d
     both-first =
         record {
@@ -183,25 +183,25 @@ pub record Opened {P R : Type 0} (i : ℕ) (place : P) (to-left to-right : ℕ) 
   pub e : Tree P R
   pub v : R
   pub is : b ≡ node d i place v e
-  pub left-is : to-left ≡ rootOf d
-  pub right-is : to-right ≡ rootOf e
+  pub left-is : to-left ≡ root-of d
+  pub right-is : to-right ≡ root-of e
 
 module _ {P R : Type 0} (m : Model P R) where
-  pub opened : (ns : List (Node P R)) {i : ℕ} {place : P} {to-left to-right : ℕ} (b : Tree P R) → 0 < i → i ≡ rootOf b
-      → Holds ns b → placeOf (at ns i) ≡ Some place → to-left ≡ leftOf (at ns i) → to-right ≡ rightOf (at ns i)
+  pub opened : (ns : List (Node P R)) {i : ℕ} {place : P} {to-left to-right : ℕ} (b : Tree P R) → 0 < i → i ≡ root-of b
+      → Holds ns b → held-place (at ns i) ≡ Some place → to-left ≡ left-child (at ns i) → to-right ≡ right-child (at ns i)
       → Opened i place to-left to-right b
   opened ns leaf pos is h read-place read-left read-right = absurd (omega arith)
   opened ns {i} {place} (node d s o v e) pos is h read-place read-left read-right =
       let whole : at ns i ≡ Some (stored d o v e) = ap (at ns) is ∙ h .0 in
-      let found : Some place ≡ Some o = sym read-place ∙ ap placeOf whole in
+      let found : Some place ≡ Some o = sym read-place ∙ ap held-place whole in
       record {
         d = d;
         e = e;
         v = v;
         is = cc;
-        left-is = read-left ∙ ap leftOf whole;
+        left-is = read-left ∙ ap left-child whole;
         right-is = read-right
-            ∙ ap rightOf whole;
+            ∙ ap right-child whole;
       }
 
   pub opened-three : {ns : List (Node P R)} {s k ia ib ic : ℕ} {a b c : Tree P R} {place : P} {to-left to-right : ℕ}

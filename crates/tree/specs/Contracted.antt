@@ -7,8 +7,8 @@ use lib.Dec.{eqb}
 use lib.ListN.{length}
 use Rattle.std.specs.Finite.{nth}
 use Rattle.tree.specs.declared.node.Node.{Node}
-use Rattle.tree.specs.Slots.{at, tallOf, countOf}
-use Rattle.tree.specs.Tree.{Tree, rootOf, tall, size, times, Balanced, Holds}
+use Rattle.tree.specs.Slots.{at, height-of, count-of}
+use Rattle.tree.specs.Tree.{Tree, root-of, tall, size, times, Balanced, Holds}
 
 abbrev pub one : ℕ → ℕ → ℕ
 one j s = cond (eqb j s) 1 0
@@ -18,14 +18,14 @@ pub record Room {P R : Type 0} (ns : List (Node P R)) (s left right : ℕ) : Typ
   pub within : s < length ns
   pub within-l : left < length ns
   pub within-r : right < length ns
-  pub low-l : tallOf (at ns left) < 200
-  pub low-r : tallOf (at ns right) < 200
-  pub few : countOf (at ns left) + countOf (at ns right) < 65535
+  pub low-l : height-of (at ns left) < 200
+  pub low-r : height-of (at ns right) < 200
+  pub few : count-of (at ns left) + count-of (at ns right) < 65535
 
 -- The slots hold the trees l and r, apart from each other and from s, which is free to be written.
 pub record TwoAt {P R : Type 0} (ns : List (Node P R)) (s left right : ℕ) (l r : Tree P R) : Type 0 where
-  pub left-is : left ≡ rootOf l
-  pub right-is : right ≡ rootOf r
+  pub left-is : left ≡ root-of l
+  pub right-is : right ≡ root-of r
   pub held-l : Holds ns l
   pub held-r : Holds ns r
   pub apart : (j : ℕ) → times j l + one j s + times j r ≤ 1
@@ -41,9 +41,9 @@ Two {P} {R} ns s left right = (l : Tree P R) × (r : Tree P R) × TwoAt ns s lef
 -- Three trees, with s between the first two and k between the last two.
 pub record ThreeAt {P R : Type 0} (ns : List (Node P R)) (s k one-is two-is three-is : ℕ) (a b c : Tree P R) : Type 0
   where
-    pub a-is : one-is ≡ rootOf a
-    pub b-is : two-is ≡ rootOf b
-    pub c-is : three-is ≡ rootOf c
+    pub a-is : one-is ≡ root-of a
+    pub b-is : two-is ≡ root-of b
+    pub c-is : three-is ≡ root-of c
     pub held-a : Holds ns a
     pub held-b : Holds ns b
     pub held-c : Holds ns c
@@ -63,7 +63,7 @@ Three {P} {R} ns s k ia ib ic = (a : Tree P R) × (b : Tree P R) × (c : Tree P 
 -- After a call the slots hold the tree t, and the slots that do not stand in it are as they were.
 pub record Done {P R : Type 0} (old new : List (Node P R)) (res : ℕ) (t : Tree P R) : Type 0 where
   pub held : Holds new t
-  pub root : res ≡ rootOf t
+  pub root : res ≡ root-of t
   pub kept : (j : ℕ) → times j t ≡ 0 → nth new j ≡ nth old j
 
 -- Two trees below a slot, both low.
@@ -77,7 +77,7 @@ Even {P} {R} ns s left right = (l : Tree P R) × (r : Tree P R) × EvenAt ns s l
 
 -- A balanced tree, and a slot s that is not in it.
 pub record GrowAt {P R : Type 0} (ns : List (Node P R)) (s root : ℕ) (t : Tree P R) : Type 0 where
-  pub root-is : root ≡ rootOf t
+  pub root-is : root ≡ root-of t
   pub held : Holds ns t
   pub apart : (j : ℕ) → times j t + one j s ≤ 1
   pub pos : 0 < s
@@ -90,7 +90,7 @@ Grow {P} {R} ns s root = (t : Tree P R) × GrowAt ns s root t
 
 -- A balanced tree at a root.
 pub record TreeAt {P R : Type 0} (ns : List (Node P R)) (root : ℕ) (t : Tree P R) : Type 0 where
-  pub root-is : root ≡ rootOf t
+  pub root-is : root ≡ root-of t
   pub held : Holds ns t
   pub apart : (j : ℕ) → times j t ≤ 1
   pub few : size t ≤ 4095

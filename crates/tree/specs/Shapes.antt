@@ -8,38 +8,38 @@ use Rattle.tree.specs.Tree.{Tree, leaf, node, linked, tall, size}
 
 module _ {P R : Type 0} where
   -- The first entry below a node, whose left tree is given.
-  abbrev pub headSlot : Tree P R → ℕ → ℕ
-  headSlot leaf k = k
-  headSlot (node a i o v b) k = headSlot a i
+  abbrev pub head-slot : Tree P R → ℕ → ℕ
+  head-slot leaf k = k
+  head-slot (node a i o v b) k = head-slot a i
 
-  abbrev pub headPlace : Tree P R → P → P
-  headPlace leaf q = q
-  headPlace (node a i o v b) q = headPlace a o
+  abbrev pub head-place : Tree P R → P → P
+  head-place leaf q = q
+  head-place (node a i o v b) q = head-place a o
 
-  abbrev pub firstSlot : Tree P R → ℕ
-  firstSlot leaf = 0
-  firstSlot (node a k q v b) = headSlot a k
+  abbrev pub first-slot : Tree P R → ℕ
+  first-slot leaf = 0
+  first-slot (node a k q v b) = head-slot a k
 
 module _ {P R : Type 0} (m : Model P R) where
   -- The root of the middle one of three trees goes to the top.
-  abbrev pub rotatedTwice : Tree P R → ℕ → P → Tree P R → ℕ → P → Tree P R → Tree P R
-  rotatedTwice a s p leaf k q c = linked m a s p (linked m leaf k q c)
-  rotatedTwice a s p (node d i o v b) k q c = linked m (linked m a s p d) i o (linked m b k q c)
+  abbrev pub rotated-twice : Tree P R → ℕ → P → Tree P R → ℕ → P → Tree P R → Tree P R
+  rotated-twice a s p leaf k q c = linked m a s p (linked m leaf k q c)
+  rotated-twice a s p (node d i o v b) k q c = linked m (linked m a s p d) i o (linked m b k q c)
 
-  abbrev pub rotatedRight : Tree P R → ℕ → P → Tree P R → Tree P R
-  rotatedRight leaf k q c = linked m leaf k q c
-  rotatedRight (node a s p v b) k q c =
-      cond (ltb (tall a) (tall b)) (rotatedTwice a s p b k q c) (linked m a s p (linked m b k q c))
+  abbrev pub rotated-right : Tree P R → ℕ → P → Tree P R → Tree P R
+  rotated-right leaf k q c = linked m leaf k q c
+  rotated-right (node a s p v b) k q c =
+      cond (ltb (tall a) (tall b)) (rotated-twice a s p b k q c) (linked m a s p (linked m b k q c))
 
-  abbrev pub rotatedLeft : Tree P R → ℕ → P → Tree P R → Tree P R
-  rotatedLeft a s p leaf = linked m a s p leaf
-  rotatedLeft a s p (node b k q v c) =
-      cond (ltb (tall c) (tall b)) (rotatedTwice a s p b k q c) (linked m (linked m a s p b) k q c)
+  abbrev pub rotated-left : Tree P R → ℕ → P → Tree P R → Tree P R
+  rotated-left a s p leaf = linked m a s p leaf
+  rotated-left a s p (node b k q v c) =
+      cond (ltb (tall c) (tall b)) (rotated-twice a s p b k q c) (linked m (linked m a s p b) k q c)
 
   abbrev pub evened : Tree P R → ℕ → P → Tree P R → Tree P R
   evened l s p r =
-      cond (ltb (1 + tall r) (tall l)) (rotatedRight l s p r)
-      (cond (ltb (1 + tall l) (tall r)) (rotatedLeft l s p r) (linked m l s p r))
+      cond (ltb (1 + tall r) (tall l)) (rotated-right l s p r)
+      (cond (ltb (1 + tall l) (tall r)) (rotated-left l s p r) (linked m l s p r))
 
   -- A node without its first entry.
   abbrev pub pull : Tree P R → ℕ → P → Tree P R → Tree P R
@@ -53,7 +53,7 @@ module _ {P R : Type 0} (m : Model P R) where
   -- Two trees made one.
   abbrev pub fused : Tree P R → Tree P R → Tree P R
   fused l leaf = l
-  fused l (node a k q v b) = evened l (headSlot a k) (headPlace a q) (pull a k q b)
+  fused l (node a k q v b) = evened l (head-slot a k) (head-place a q) (pull a k q b)
 
   abbrev pub grown : P → ℕ → Tree P R → Tree P R
   grown p s leaf = linked m leaf s p leaf

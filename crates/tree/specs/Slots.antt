@@ -7,33 +7,33 @@ use Rattle.std.specs.Finite.{nth}
 use Rattle.kinds.specs.Rules.{Model}
 use Rattle.tree.specs.declared.node.Node.{Node}
 
-abbrev pub tallOf : {P R : Type 0} → Option (Node P R) → ℕ
-tallOf None = 0
-tallOf (Some n) = n .height
+abbrev pub height-of : {P R : Type 0} → Option (Node P R) → ℕ
+height-of None = 0
+height-of (Some n) = n .height
 
-abbrev pub countOf : {P R : Type 0} → Option (Node P R) → ℕ
-countOf None = 0
-countOf (Some n) = n .count
+abbrev pub count-of : {P R : Type 0} → Option (Node P R) → ℕ
+count-of None = 0
+count-of (Some n) = n .count
 
-abbrev pub leftOf : {P R : Type 0} → Option (Node P R) → ℕ
-leftOf None = 0
-leftOf (Some n) = n .left
+abbrev pub left-child : {P R : Type 0} → Option (Node P R) → ℕ
+left-child None = 0
+left-child (Some n) = n .left
 
-abbrev pub rightOf : {P R : Type 0} → Option (Node P R) → ℕ
-rightOf None = 0
-rightOf (Some n) = n .right
+abbrev pub right-child : {P R : Type 0} → Option (Node P R) → ℕ
+right-child None = 0
+right-child (Some n) = n .right
 
-abbrev pub placeOf : {P R : Type 0} → Option (Node P R) → Option P
-placeOf None = None
-placeOf (Some n) = Some (n .place)
+abbrev pub held-place : {P R : Type 0} → Option (Node P R) → Option P
+held-place None = None
+held-place (Some n) = Some (n .place)
 
-abbrev pub joinOf : {P R : Type 0} → Option (Node P R) → Option R
-joinOf None = None
-joinOf (Some n) = Some (n .join)
+abbrev pub held-join : {P R : Type 0} → Option (Node P R) → Option R
+held-join None = None
+held-join (Some n) = Some (n .join)
 
-abbrev pub overOf : {P R : Type 0} → Model P R → R → Option (Node P R) → R
-overOf m r None = r
-overOf m r (Some n) = m .joined r (n .join)
+abbrev pub joined-over : {P R : Type 0} → Model P R → R → Option (Node P R) → R
+joined-over m r None = r
+joined-over m r (Some n) = m .joined r (n .join)
 
 -- The node at a slot; slot 0 is none.
 abbrev pub at : {P R : Type 0} → List (Node P R) → ℕ → Option (Node P R)
@@ -45,9 +45,9 @@ made m ns p l r = record {
   place = p;
   left = l;
   right = r;
-  height = 1 + max (tallOf (at ns l)) (tallOf (at ns r));
-  count = 1 + countOf (at ns l) + countOf (at ns r);
-  join = overOf m (overOf m (m .single p) (at ns l)) (at ns r);
+  height = 1 + max (height-of (at ns l)) (height-of (at ns r));
+  count = 1 + count-of (at ns l) + count-of (at ns r);
+  join = joined-over m (joined-over m (m .single p) (at ns l)) (at ns r);
 }
 
 -- A node, marked as not in use.

@@ -16,9 +16,9 @@ pub data Tree (P R : Type 0) : Type 0 where
   node : Tree P R → ℕ → P → R → Tree P R → Tree P R
 
 module _ {P R : Type 0} where
-  abbrev pub rootOf : Tree P R → ℕ
-  rootOf leaf = 0
-  rootOf (node l s p v r) = s
+  abbrev pub root-of : Tree P R → ℕ
+  root-of leaf = 0
+  root-of (node l s p v r) = s
 
   abbrev pub tall : Tree P R → ℕ
   tall leaf = 0
@@ -28,9 +28,9 @@ module _ {P R : Type 0} where
   size leaf = 0
   size (node l s p v r) = 1 + size l + size r
 
-  abbrev pub rowOf : Tree P R → List (Entry P)
-  rowOf leaf = []
-  rowOf (node l s p v r) = rowOf l ++ (entry s p ∷ rowOf r)
+  abbrev pub row-of : Tree P R → List (Entry P)
+  row-of leaf = []
+  row-of (node l s p v r) = row-of l ++ (entry s p ∷ row-of r)
 
   -- How often slot k stands in the tree.
   abbrev pub times : ℕ → Tree P R → ℕ
@@ -44,8 +44,8 @@ module _ {P R : Type 0} where
   abbrev pub stored : Tree P R → P → R → Tree P R → Node P R
   stored l p v r = record {
     place = p;
-    left = rootOf l;
-    right = rootOf r;
+    left = root-of l;
+    right = root-of r;
     height = 1 + max (tall l) (tall r);
     count = 1 + size l + size r;
     join = v;

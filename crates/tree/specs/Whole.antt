@@ -9,13 +9,13 @@ use Rattle.std.specs.declared.option.Option.{Option}
 use Rattle.std.specs.declared.option.Option.the-variants.{Some, None}
 use Rattle.kinds.specs.Rules.{Model}
 use Rattle.tree.specs.declared.node.Node.{Node}
-use Rattle.tree.specs.Slots.{at, tallOf, countOf, placeOf}
-use Rattle.tree.specs.Tree.{Tree, leaf, node, rootOf, rowOf, times, Balanced, Holds, Joined}
+use Rattle.tree.specs.Slots.{at, height-of, count-of, held-place}
+use Rattle.tree.specs.Tree.{Tree, leaf, node, root-of, row-of, times, Balanced, Holds, Joined}
 use Rattle.buckets.specs.Rows.{Entry, Sorted, AllAdmitted}
 
-abbrev pub orElse : {X Y : Type 0} → Option X → Y → (X → Y) → Y
-orElse None y f = y
-orElse (Some x) y f = f x
+abbrev pub or-else : {X Y : Type 0} → Option X → Y → (X → Y) → Y
+or-else None y f = y
+or-else (Some x) y f = f x
 
 -- f is true of each number below n.
 abbrev pub all : ℕ → (ℕ → Bool) → Bool
@@ -28,25 +28,25 @@ module _ {P R : Type 0} where
   capacity ns = min (length ns) 4096 - 1
 
   -- Slot j is in use.
-  abbrev pub inUse : List (Node P R) → ℕ → Bool
-  inUse ns j = ltb j 4096 && ltb 0 (countOf (at ns j))
+  abbrev pub in-use : List (Node P R) → ℕ → Bool
+  in-use ns j = ltb j 4096 && ltb 0 (count-of (at ns j))
 
   -- Where set j is present, if it is.
-  abbrev pub placeIn : List (Node P R) → ℕ → Option P
-  placeIn ns j = cond (inUse ns j) (placeOf (at ns j)) None
+  abbrev pub place-in : List (Node P R) → ℕ → Option P
+  place-in ns j = cond (in-use ns j) (held-place (at ns j)) None
 
   -- At most n levels of the tree at slot i.
-  abbrev pub readTree : ℕ → List (Node P R) → ℕ → Tree P R
-  readTree zero ns i = leaf
-  readTree (suc n) ns i =
-      orElse (at ns i) leaf (λ x. node (readTree n ns (x .left)) i (x .place) (x .join) (readTree n ns (x .right)))
+  abbrev pub read-tree : ℕ → List (Node P R) → ℕ → Tree P R
+  read-tree zero ns i = leaf
+  read-tree (suc n) ns i =
+      or-else (at ns i) leaf (λ x. node (read-tree n ns (x .left)) i (x .place) (x .join) (read-tree n ns (x .right)))
 
   -- No tree of 4095 nodes has more than 17 levels.
-  unfoldable pub treeIn : List (Node P R) → ℕ → Tree P R
-  treeIn ns i = readTree 32 ns i
+  unfoldable pub tree-in : List (Node P R) → ℕ → Tree P R
+  tree-in ns i = read-tree 32 ns i
 
-  abbrev pub rowIn : List (Node P R) → ℕ → List (Entry P)
-  rowIn ns i = rowOf (treeIn ns i)
+  abbrev pub row-in : List (Node P R) → ℕ → List (Entry P)
+  row-in ns i = row-of (tree-in ns i)
 
   -- The height and the count that a node holds are right, and its trees differ by one level at most.
   abbrev pub tidy : ℕ → ℕ → ℕ → ℕ → Node P R → Bool
@@ -57,30 +57,30 @@ module _ {P R : Type 0} where
   abbrev pub sound : ℕ → List (Node P R) → ℕ → Bool
   sound zero ns i = eqb i 0
   sound (suc n) ns i =
-      orElse (at ns i) (eqb i 0)
-      (λ x. tidy (tallOf (at ns (x .left))) (tallOf (at ns (x .right))) (countOf (at ns (x .left)))
-      (countOf (at ns (x .right))) x
+      or-else (at ns i) (eqb i 0)
+      (λ x. tidy (height-of (at ns (x .left))) (height-of (at ns (x .right))) (count-of (at ns (x .left)))
+      (count-of (at ns (x .right))) x
       && (sound n ns (x .left) && sound n ns (x .right)))
 
   abbrev pub mark : List (Node P R) → ℕ → ℕ
-  mark ns j = cond (inUse ns j) 1 0
+  mark ns j = cond (in-use ns j) 1 0
 
   -- The tree at slot i is sound, and each slot stands in it once if it is in use, and else not at all.
   unfoldable pub shaped : List (Node P R) → ℕ → Bool
-  shaped ns i = sound 32 ns i && all (length ns) (λ j. eqb (times j (treeIn ns i)) (mark ns j))
+  shaped ns i = sound 32 ns i && all (length ns) (λ j. eqb (times j (tree-in ns i)) (mark ns j))
 
 -- What `shaped` says, of the tree read.
 pub record ShapeAt {P R : Type 0} (ns : List (Node P R)) (root : ℕ) (t : Tree P R) : Type 0 where
-  pub root-is : root ≡ rootOf t
+  pub root-is : root ≡ root-of t
   pub held : Holds ns t
   pub balanced : Balanced t
   pub marked : (j : ℕ) → times j t ≡ mark ns j
 
 -- What needs the kind: the row is sorted, its places are admitted, and the stored regions are right.
 pub record OrderlyAt {P R : Type 0} (m : Model P R) (t : Tree P R) : Type 0 where
-  pub sorted : Sorted m (rowOf t)
-  pub admitted : AllAdmitted m (rowOf t)
+  pub sorted : Sorted m (row-of t)
+  pub admitted : AllAdmitted m (row-of t)
   pub joined : Joined m t
 
 abbrev pub Orderly : {P R : Type 0} → Model P R → List (Node P R) → ℕ → Type 0
-Orderly m ns root = OrderlyAt m (treeIn ns root)
+Orderly m ns root = OrderlyAt m (tree-in ns root)

@@ -3,7 +3,7 @@ ghost use mathlib.Core.Path.{_≡_};
 ghost use Prim.Native.Nat.{_<_};
 ghost use Rattle.buckets.specs.Rows.{entry, ahead};
 ghost use Rattle.tree.specs.Tree.{Tree};
-ghost use Rattle.tree.specs.Shapes.{grown, firstSlot, pulled, fused, shrunk};
+ghost use Rattle.tree.specs.Shapes.{grown, first-slot, pulled, fused, shrunk};
 ghost use Rattle.tree.specs.Contracted.{Grow, GrowAt, Treed, TreeAt, Paired, PairAt, Done};
 use crate::node::Node;
 use crate::rotations::rebalance;
@@ -50,7 +50,7 @@ pub(crate) fn insert<P: PlaceKind>(
 pub(crate) fn first_of<P: PlaceKind>(nodes: &[Node<P, P::Region>], root: u16) -> u16
     requires { ⌜ Treed (now nodes) root ⌝ }
     requires some { ⌜ 0 < root ⌝ }
-    ensures { λ res. ⌜ ((t : Tree P P·Region) → TreeAt (now (nodes .entry)) root t → res ≡ firstSlot t) ⌝ }
+    ensures { λ res. ⌜ ((t : Tree P P·Region) → TreeAt (now (nodes .entry)) root t → res ≡ first-slot t) ⌝ }
 {
     let mut first = root;
     let mut left = left_at(nodes, first);

@@ -2,7 +2,7 @@
 ghost use Prim.Native.Nat.{_<_};
 ghost use lib.ListN.{length};
 ghost use Rattle.tree.specs.Tree.{Tree, linked};
-ghost use Rattle.tree.specs.Shapes.{rotatedTwice, rotatedRight, rotatedLeft, evened};
+ghost use Rattle.tree.specs.Shapes.{rotated-twice, rotated-right, rotated-left, evened};
 ghost use Rattle.tree.specs.Contracted.{Three, ThreeAt, Even, EvenAt, Done};
 use crate::node::Node;
 use crate::slots::height_at;
@@ -61,7 +61,7 @@ pub(crate) fn rotate_twice<P: PlaceKind>(
 )
     requires { ⌜ Three (now nodes) s k a b c ⌝ }
     requires some { ⌜ 0 < b ⌝ }
-    ensures { λ _. ⌜ ((ta tb tc : Tree P P·Region) → ThreeAt (now (nodes .entry)) s k a b c ta tb tc → Done (now (nodes .entry)) (now (nodes .exit)) b (rotatedTwice (P·PlaceKind .model) ta s p tb k q tc)) ⌝ }
+    ensures { λ _. ⌜ ((ta tb tc : Tree P P·Region) → ThreeAt (now (nodes .entry)) s k a b c ta tb tc → Done (now (nodes .entry)) (now (nodes .exit)) b (rotated-twice (P·PlaceKind .model) ta s p tb k q tc)) ⌝ }
 {
     let middle = place_at(nodes, b);
     let left = left_at(nodes, b);
@@ -81,7 +81,7 @@ pub(crate) fn rotate_right<P: PlaceKind>(
 ) -> u16
     requires { ⌜ Even (now nodes) slot left right ⌝ }
     requires some { ⌜ (0 < left) × (left < length (now nodes)) ⌝ }
-    ensures { λ res. ⌜ ((l r : Tree P P·Region) → EvenAt (now (nodes .entry)) slot left right l r → Done (now (nodes .entry)) (now (nodes .exit)) res (rotatedRight (P·PlaceKind .model) l slot place r)) ⌝ }
+    ensures { λ res. ⌜ ((l r : Tree P P·Region) → EvenAt (now (nodes .entry)) slot left right l r → Done (now (nodes .entry)) (now (nodes .exit)) res (rotated-right (P·PlaceKind .model) l slot place r)) ⌝ }
 {
     let below = place_at(nodes, left);
     let outer = left_at(nodes, left);
@@ -105,7 +105,7 @@ pub(crate) fn rotate_left<P: PlaceKind>(
 ) -> u16
     requires { ⌜ Even (now nodes) slot left right ⌝ }
     requires some { ⌜ (0 < right) × (right < length (now nodes)) ⌝ }
-    ensures { λ res. ⌜ ((l r : Tree P P·Region) → EvenAt (now (nodes .entry)) slot left right l r → Done (now (nodes .entry)) (now (nodes .exit)) res (rotatedLeft (P·PlaceKind .model) l slot place r)) ⌝ }
+    ensures { λ res. ⌜ ((l r : Tree P P·Region) → EvenAt (now (nodes .entry)) slot left right l r → Done (now (nodes .entry)) (now (nodes .exit)) res (rotated-left (P·PlaceKind .model) l slot place r)) ⌝ }
 {
     let below = place_at(nodes, right);
     let inner = left_at(nodes, right);

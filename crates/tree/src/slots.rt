@@ -5,7 +5,7 @@ ghost use Prim.Native.Nat.{_<_, min};
 ghost use lib.ListN.{length, set};
 ghost use Rattle.std.specs.declared.option.Option.the-variants.{Some};
 ghost use Rattle.tree.specs.declared.node.Node.{Node};
-ghost use Rattle.tree.specs.Slots.{at, tallOf, countOf, leftOf, rightOf, placeOf, joinOf, overOf, made, idle};
+ghost use Rattle.tree.specs.Slots.{at, height-of, count-of, left-child, right-child, held-place, held-join, joined-over, made, idle};
 ghost use Rattle.tree.specs.Tree.{Tree, linked};
 ghost use Rattle.tree.specs.Contracted.{Room, Two, TwoAt, Done};
 use crate::node::Node;
@@ -14,7 +14,7 @@ use kinds::PlaceKind;
 // How high the tree at `slot` is; 0 where there is none.
 pub(crate) fn height_at<P: PlaceKind>(nodes: &[Node<P, P::Region>], slot: u16) -> u8
     requires { ⌜ slot < length (now nodes) ⌝ }
-    ensures { λ r. ⌜ r ≡ tallOf (at (now (nodes .entry)) slot) ⌝ }
+    ensures { λ r. ⌜ r ≡ height-of (at (now (nodes .entry)) slot) ⌝ }
 {
     if slot == 0 {
         0
@@ -26,7 +26,7 @@ pub(crate) fn height_at<P: PlaceKind>(nodes: &[Node<P, P::Region>], slot: u16) -
 // How many nodes the tree at `slot` has; 0 where there is none.
 pub(crate) fn count_at<P: PlaceKind>(nodes: &[Node<P, P::Region>], slot: u16) -> u16
     requires { ⌜ slot < length (now nodes) ⌝ }
-    ensures { λ r. ⌜ r ≡ countOf (at (now (nodes .entry)) slot) ⌝ }
+    ensures { λ r. ⌜ r ≡ count-of (at (now (nodes .entry)) slot) ⌝ }
 {
     if slot == 0 {
         0
@@ -42,7 +42,7 @@ pub(crate) fn joined_at<P: PlaceKind>(
     slot: u16,
 ) -> P::Region
     requires { ⌜ slot < length (now nodes) ⌝ }
-    ensures { λ r. ⌜ r ≡ overOf (P·PlaceKind .model) base (at (now (nodes .entry)) slot) ⌝ }
+    ensures { λ r. ⌜ r ≡ joined-over (P·PlaceKind .model) base (at (now (nodes .entry)) slot) ⌝ }
 {
     if slot == 0 {
         base
@@ -54,7 +54,7 @@ pub(crate) fn joined_at<P: PlaceKind>(
 // The left child of a node.
 pub(crate) fn left_at<P: PlaceKind>(nodes: &[Node<P, P::Region>], slot: u16) -> u16
     requires { ⌜ (0 < slot) × (slot < length (now nodes)) ⌝ }
-    ensures { λ r. ⌜ r ≡ leftOf (at (now (nodes .entry)) slot) ⌝ }
+    ensures { λ r. ⌜ r ≡ left-child (at (now (nodes .entry)) slot) ⌝ }
 {
     nodes[slot as usize].left
 }
@@ -62,7 +62,7 @@ pub(crate) fn left_at<P: PlaceKind>(nodes: &[Node<P, P::Region>], slot: u16) -> 
 // The right child of a node.
 pub(crate) fn right_at<P: PlaceKind>(nodes: &[Node<P, P::Region>], slot: u16) -> u16
     requires { ⌜ (0 < slot) × (slot < length (now nodes)) ⌝ }
-    ensures { λ r. ⌜ r ≡ rightOf (at (now (nodes .entry)) slot) ⌝ }
+    ensures { λ r. ⌜ r ≡ right-child (at (now (nodes .entry)) slot) ⌝ }
 {
     nodes[slot as usize].right
 }
@@ -70,7 +70,7 @@ pub(crate) fn right_at<P: PlaceKind>(nodes: &[Node<P, P::Region>], slot: u16) ->
 // The place of a node.
 pub(crate) fn place_at<P: PlaceKind>(nodes: &[Node<P, P::Region>], slot: u16) -> P
     requires { ⌜ (0 < slot) × (slot < length (now nodes)) ⌝ }
-    ensures { λ r. ⌜ placeOf (at (now (nodes .entry)) slot) ≡ Some r ⌝ }
+    ensures { λ r. ⌜ held-place (at (now (nodes .entry)) slot) ≡ Some r ⌝ }
 {
     nodes[slot as usize].place
 }
@@ -78,7 +78,7 @@ pub(crate) fn place_at<P: PlaceKind>(nodes: &[Node<P, P::Region>], slot: u16) ->
 // The join of the regions at and below a node.
 pub(crate) fn join_at<P: PlaceKind>(nodes: &[Node<P, P::Region>], slot: u16) -> P::Region
     requires { ⌜ (0 < slot) × (slot < length (now nodes)) ⌝ }
-    ensures { λ r. ⌜ joinOf (at (now (nodes .entry)) slot) ≡ Some r ⌝ }
+    ensures { λ r. ⌜ held-join (at (now (nodes .entry)) slot) ≡ Some r ⌝ }
 {
     nodes[slot as usize].join
 }

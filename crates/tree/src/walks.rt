@@ -5,8 +5,8 @@ ghost use Prim.Native.Nat.{_<_, _≤_};
 ghost use lib.ListN.{take, drop};
 ghost use Rattle.buckets.specs.Rows.{Entry};
 ghost use Rattle.buckets.specs.Regions.{joined-with, region-of};
-ghost use Rattle.tree.specs.Slots.{at, countOf};
-ghost use Rattle.tree.specs.Tree.{Tree, rowOf, Joined};
+ghost use Rattle.tree.specs.Slots.{at, count-of};
+ghost use Rattle.tree.specs.Tree.{Tree, row-of, Joined};
 ghost use Rattle.tree.specs.Shapes.{ranked};
 ghost use Rattle.tree.specs.Contracted.{Treed, TreeAt};
 use crate::changes::stands_ahead;
@@ -51,7 +51,7 @@ pub(crate) fn suffix<P: PlaceKind>(
     first: u16,
 ) -> P::Region
     requires { ⌜ Treed (now nodes) root ⌝ }
-    ensures { λ res. ⌜ ((t : Tree P P·Region) → TreeAt (now (nodes .entry)) root t → Joined (P·PlaceKind .model) t → res ≡ joined-with (P·PlaceKind .model) base (drop first (rowOf t))) ⌝ }
+    ensures { λ res. ⌜ ((t : Tree P P·Region) → TreeAt (now (nodes .entry)) root t → Joined (P·PlaceKind .model) t → res ≡ joined-with (P·PlaceKind .model) base (drop first (row-of t))) ⌝ }
 {
     let mut slot = root;
     let mut joined = base;
@@ -81,7 +81,7 @@ pub(crate) fn prefix<P: PlaceKind>(
     end: u16,
 ) -> P::Region
     requires { ⌜ Treed (now nodes) root ⌝ }
-    ensures { λ res. ⌜ ((t : Tree P P·Region) → TreeAt (now (nodes .entry)) root t → Joined (P·PlaceKind .model) t → res ≡ joined-with (P·PlaceKind .model) base (take end (rowOf t))) ⌝ }
+    ensures { λ res. ⌜ ((t : Tree P P·Region) → TreeAt (now (nodes .entry)) root t → Joined (P·PlaceKind .model) t → res ≡ joined-with (P·PlaceKind .model) base (take end (row-of t))) ⌝ }
 {
     let mut slot = root;
     let mut joined = base;
@@ -111,8 +111,8 @@ pub(crate) fn between<P: PlaceKind>(
     end: u16,
 ) -> P::Region
     requires { ⌜ Treed (now nodes) root ⌝ }
-    requires range { ⌜ (first < end) × (end ≤ countOf (at (now nodes) root)) ⌝ }
-    ensures { λ res. ⌜ ((t : Tree P P·Region) → TreeAt (now (nodes .entry)) root t → Joined (P·PlaceKind .model) t → (e : Entry P) (es : List (Entry P)) → drop first (take end (rowOf t)) ≡ e ∷ es → res ≡ region-of (P·PlaceKind .model) e es) ⌝ }
+    requires range { ⌜ (first < end) × (end ≤ count-of (at (now nodes) root)) ⌝ }
+    ensures { λ res. ⌜ ((t : Tree P P·Region) → TreeAt (now (nodes .entry)) root t → Joined (P·PlaceKind .model) t → (e : Entry P) (es : List (Entry P)) → drop first (take end (row-of t)) ≡ e ∷ es → res ≡ region-of (P·PlaceKind .model) e es) ⌝ }
 {
     let mut slot = root;
     let mut skip = first;

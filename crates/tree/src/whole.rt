@@ -12,7 +12,7 @@ ghost use Rattle.buckets.specs.Rows.{Entry, entry, inserted, rank-of, row};
 ghost use Rattle.buckets.specs.Regions.{members, region-of};
 ghost use Rattle.tree.specs.Tree.{tall};
 ghost use Rattle.tree.specs.Rows.{without, find, often};
-ghost use Rattle.tree.specs.Whole.{capacity, placeIn, treeIn, rowIn, shaped, Orderly};
+ghost use Rattle.tree.specs.Whole.{capacity, place-in, tree-in, row-in, shaped, Orderly};
 use crate::changes::insert;
 use crate::changes::remove;
 use crate::node::Node;
@@ -38,7 +38,7 @@ pub fn capacity<P: PlaceKind>(nodes: &[Node<P, P::Region>]) -> u16
 
 /// Where the set `set` is present, if it is.
 pub fn place_of<P: PlaceKind>(nodes: &[Node<P, P::Region>], set: u16) -> Option<P>
-    ensures { λ r. ⌜ r ≡ placeIn (now (nodes .entry)) set ⌝ }
+    ensures { λ r. ⌜ r ≡ place-in (now (nodes .entry)) set ⌝ }
 {
     if set >= limit(nodes) {
         return None;
@@ -53,11 +53,11 @@ pub fn place_of<P: PlaceKind>(nodes: &[Node<P, P::Region>], set: u16) -> Option<
 pub fn enter<P: PlaceKind>(nodes: &mut [Node<P, P::Region>], root: u16, set: u16, place: P) -> u16
     requires shape { ⌜ shaped (now nodes) root ≡ true ⌝ }
     requires room { ⌜ (0 < set) × (set ≤ capacity (now nodes)) ⌝ }
-    requires absent { ⌜ placeIn (now nodes) set ≡ None ⌝ }
+    requires absent { ⌜ place-in (now nodes) set ≡ None ⌝ }
     ensures shape { λ r. ⌜ shaped (now (nodes .exit)) r ≡ true ⌝ }
-    ensures view { λ r. ⌜ ((j : ℕ) → placeIn (now (nodes .exit)) j ≡ cond (eqb j set) (Some place) (placeIn (now (nodes .entry)) j)) ⌝ }
-    ensures others { λ r. ⌜ ((j : ℕ) → placeIn (now (nodes .exit)) j ≡ None → nth (now (nodes .exit)) j ≡ nth (now (nodes .entry)) j) ⌝ }
-    ensures order { λ r. ⌜ (Orderly (P·PlaceKind .model) (now (nodes .entry)) root → Admitted (P·PlaceKind .model) place → Orderly (P·PlaceKind .model) (now (nodes .exit)) r × (rowIn (now (nodes .exit)) r ≡ inserted (P·PlaceKind .model) (entry set place) (rowIn (now (nodes .entry)) root))) ⌝ }
+    ensures view { λ r. ⌜ ((j : ℕ) → place-in (now (nodes .exit)) j ≡ cond (eqb j set) (Some place) (place-in (now (nodes .entry)) j)) ⌝ }
+    ensures others { λ r. ⌜ ((j : ℕ) → place-in (now (nodes .exit)) j ≡ None → nth (now (nodes .exit)) j ≡ nth (now (nodes .entry)) j) ⌝ }
+    ensures order { λ r. ⌜ (Orderly (P·PlaceKind .model) (now (nodes .entry)) root → Admitted (P·PlaceKind .model) place → Orderly (P·PlaceKind .model) (now (nodes .exit)) r × (row-in (now (nodes .exit)) r ≡ inserted (P·PlaceKind .model) (entry set place) (row-in (now (nodes .entry)) root))) ⌝ }
 {
     ahead_laws::<P>();
     insert(nodes, root, set, place)
@@ -67,11 +67,11 @@ pub fn enter<P: PlaceKind>(nodes: &mut [Node<P, P::Region>], root: u16, set: u16
 pub fn leave<P: PlaceKind>(nodes: &mut [Node<P, P::Region>], root: u16, set: u16, place: P) -> u16
     requires shape { ⌜ shaped (now nodes) root ≡ true ⌝ }
     requires room { ⌜ (0 < set) × (set ≤ capacity (now nodes)) ⌝ }
-    requires there { ⌜ placeIn (now nodes) set ≡ Some place ⌝ }
+    requires there { ⌜ place-in (now nodes) set ≡ Some place ⌝ }
     ensures shape { λ r. ⌜ shaped (now (nodes .exit)) r ≡ true ⌝ }
-    ensures view { λ r. ⌜ (Orderly (P·PlaceKind .model) (now (nodes .entry)) root → (j : ℕ) → placeIn (now (nodes .exit)) j ≡ cond (eqb j set) None (placeIn (now (nodes .entry)) j)) ⌝ }
-    ensures others { λ r. ⌜ ((j : ℕ) → placeIn (now (nodes .entry)) j ≡ None → nth (now (nodes .exit)) j ≡ nth (now (nodes .entry)) j) ⌝ }
-    ensures order { λ r. ⌜ (Orderly (P·PlaceKind .model) (now (nodes .entry)) root → Orderly (P·PlaceKind .model) (now (nodes .exit)) r × (rowIn (now (nodes .exit)) r ≡ without set (rowIn (now (nodes .entry)) root))) ⌝ }
+    ensures view { λ r. ⌜ (Orderly (P·PlaceKind .model) (now (nodes .entry)) root → (j : ℕ) → place-in (now (nodes .exit)) j ≡ cond (eqb j set) None (place-in (now (nodes .entry)) j)) ⌝ }
+    ensures others { λ r. ⌜ ((j : ℕ) → place-in (now (nodes .entry)) j ≡ None → nth (now (nodes .exit)) j ≡ nth (now (nodes .entry)) j) ⌝ }
+    ensures order { λ r. ⌜ (Orderly (P·PlaceKind .model) (now (nodes .entry)) root → Orderly (P·PlaceKind .model) (now (nodes .exit)) r × (row-in (now (nodes .exit)) r ≡ without set (row-in (now (nodes .entry)) root))) ⌝ }
 {
     ahead_laws::<P>();
     let many = count_at(nodes, root);
@@ -86,9 +86,9 @@ pub fn leave<P: PlaceKind>(nodes: &mut [Node<P, P::Region>], root: u16, set: u16
 /// Marks slots 1 to the capacity as not in use.
 pub fn clear_all<P: PlaceKind>(nodes: &mut [Node<P, P::Region>])
     ensures shape { λ _. ⌜ shaped (now (nodes .exit)) 0 ≡ true ⌝ }
-    ensures view { λ _. ⌜ ((j : ℕ) → placeIn (now (nodes .exit)) j ≡ None) ⌝ }
+    ensures view { λ _. ⌜ ((j : ℕ) → place-in (now (nodes .exit)) j ≡ None) ⌝ }
     ensures others { λ _. ⌜ ((j : ℕ) → (0 < j → capacity (now (nodes .entry)) < j) → nth (now (nodes .exit)) j ≡ nth (now (nodes .entry)) j) ⌝ }
-    ensures order { λ _. ⌜ Orderly (P·PlaceKind .model) (now (nodes .exit)) 0 × (rowIn (now (nodes .exit)) 0 ≡ []) ⌝ }
+    ensures order { λ _. ⌜ Orderly (P·PlaceKind .model) (now (nodes .exit)) 0 × (row-in (now (nodes .exit)) 0 ≡ []) ⌝ }
 {
     let end = limit(nodes);
     for slot in 1..end {
@@ -99,8 +99,8 @@ pub fn clear_all<P: PlaceKind>(nodes: &mut [Node<P, P::Region>])
 /// How many sets are present.
 pub fn count<P: PlaceKind>(nodes: &[Node<P, P::Region>], root: u16) -> u16
     requires shape { ⌜ shaped (now nodes) root ≡ true ⌝ }
-    ensures many { λ r. ⌜ (r ≡ length (rowIn (now (nodes .entry)) root)) × (r ≤ 4095) ⌝ }
-    ensures row { λ r. ⌜ ((j : ℕ) → (find j (rowIn (now (nodes .entry)) root) ≡ placeIn (now (nodes .entry)) j) × (often j (rowIn (now (nodes .entry)) root) ≤ 1)) ⌝ }
+    ensures many { λ r. ⌜ (r ≡ length (row-in (now (nodes .entry)) root)) × (r ≤ 4095) ⌝ }
+    ensures row { λ r. ⌜ ((j : ℕ) → (find j (row-in (now (nodes .entry)) root) ≡ place-in (now (nodes .entry)) j) × (often j (row-in (now (nodes .entry)) root) ≤ 1)) ⌝ }
 {
     if root == 0 {
         return 0;
@@ -112,9 +112,9 @@ pub fn count<P: PlaceKind>(nodes: &[Node<P, P::Region>], root: u16) -> u16
 pub fn rank_of<P: PlaceKind>(nodes: &[Node<P, P::Region>], root: u16, set: u16, place: P) -> u16
     requires shape { ⌜ shaped (now nodes) root ≡ true ⌝ }
     requires room { ⌜ (0 < set) × (set ≤ capacity (now nodes)) ⌝ }
-    requires there { ⌜ placeIn (now nodes) set ≡ Some place ⌝ }
-    ensures low { λ r. ⌜ r ≤ length (rowIn (now (nodes .entry)) root) ⌝ }
-    ensures rank { λ r. ⌜ (Orderly (P·PlaceKind .model) (now (nodes .entry)) root → r ≡ rank-of set (rowIn (now (nodes .entry)) root)) ⌝ }
+    requires there { ⌜ place-in (now nodes) set ≡ Some place ⌝ }
+    ensures low { λ r. ⌜ r ≤ length (row-in (now (nodes .entry)) root) ⌝ }
+    ensures rank { λ r. ⌜ (Orderly (P·PlaceKind .model) (now (nodes .entry)) root → r ≡ rank-of set (row-in (now (nodes .entry)) root)) ⌝ }
 {
     ahead_laws::<P>();
     rank(nodes, root, set, place)
@@ -123,8 +123,8 @@ pub fn rank_of<P: PlaceKind>(nodes: &[Node<P, P::Region>], root: u16, set: u16, 
 /// The join of the regions of the entries from one rank to another.
 pub fn covers<P: PlaceKind>(nodes: &[Node<P, P::Region>], root: u16, ends: Ends) -> P::Region
     requires shape { ⌜ shaped (now nodes) root ≡ true ⌝ }
-    requires range { ⌜ (ends .first ≤ ends .last) × (ends .last < length (rowIn (now nodes) root)) ⌝ }
-    ensures { λ r. ⌜ (Orderly (P·PlaceKind .model) (now (nodes .entry)) root → (e : Entry P) (es : List (Entry P)) → members ends (rowIn (now (nodes .entry)) root) ≡ e ∷ es → r ≡ region-of (P·PlaceKind .model) e es) ⌝ }
+    requires range { ⌜ (ends .first ≤ ends .last) × (ends .last < length (row-in (now nodes) root)) ⌝ }
+    ensures { λ r. ⌜ (Orderly (P·PlaceKind .model) (now (nodes .entry)) root → (e : Entry P) (es : List (Entry P)) → members ends (row-in (now (nodes .entry)) root) ≡ e ∷ es → r ≡ region-of (P·PlaceKind .model) e es) ⌝ }
 {
     between(nodes, root, ends.first, ends.last + 1)
 }
@@ -139,11 +139,11 @@ pub fn relocate<P: PlaceKind>(
 ) -> u16
     requires shape { ⌜ shaped (now nodes) root ≡ true ⌝ }
     requires room { ⌜ (0 < set) × (set ≤ capacity (now nodes)) ⌝ }
-    requires there { ⌜ placeIn (now nodes) set ≡ Some old ⌝ }
+    requires there { ⌜ place-in (now nodes) set ≡ Some old ⌝ }
     ensures shape { λ r. ⌜ shaped (now (nodes .exit)) r ≡ true ⌝ }
-    ensures view { λ r. ⌜ (Orderly (P·PlaceKind .model) (now (nodes .entry)) root → (j : ℕ) → placeIn (now (nodes .exit)) j ≡ cond (eqb j set) (Some place) (placeIn (now (nodes .entry)) j)) ⌝ }
-    ensures others { λ r. ⌜ ((j : ℕ) → placeIn (now (nodes .entry)) j ≡ None → nth (now (nodes .exit)) j ≡ nth (now (nodes .entry)) j) ⌝ }
-    ensures order { λ r. ⌜ (Orderly (P·PlaceKind .model) (now (nodes .entry)) root → Admitted (P·PlaceKind .model) place → Orderly (P·PlaceKind .model) (now (nodes .exit)) r × (rowIn (now (nodes .exit)) r ≡ inserted (P·PlaceKind .model) (entry set place) (without set (rowIn (now (nodes .entry)) root)))) ⌝ }
+    ensures view { λ r. ⌜ (Orderly (P·PlaceKind .model) (now (nodes .entry)) root → (j : ℕ) → place-in (now (nodes .exit)) j ≡ cond (eqb j set) (Some place) (place-in (now (nodes .entry)) j)) ⌝ }
+    ensures others { λ r. ⌜ ((j : ℕ) → place-in (now (nodes .entry)) j ≡ None → nth (now (nodes .exit)) j ≡ nth (now (nodes .entry)) j) ⌝ }
+    ensures order { λ r. ⌜ (Orderly (P·PlaceKind .model) (now (nodes .entry)) root → Admitted (P·PlaceKind .model) place → Orderly (P·PlaceKind .model) (now (nodes .exit)) r × (row-in (now (nodes .exit)) r ≡ inserted (P·PlaceKind .model) (entry set place) (without set (row-in (now (nodes .entry)) root)))) ⌝ }
 {
     let rest = leave(nodes, root, set, old);
     if count_at(nodes, set) > 0 {
@@ -155,7 +155,7 @@ pub fn relocate<P: PlaceKind>(
 /// How high the tree stands: at most 16 levels.
 pub fn height<P: PlaceKind>(nodes: &[Node<P, P::Region>], root: u16) -> u8
     requires shape { ⌜ shaped (now nodes) root ≡ true ⌝ }
-    ensures { λ r. ⌜ (r ≡ tall (treeIn (now (nodes .entry)) root)) × (r ≤ 16) ⌝ }
+    ensures { λ r. ⌜ (r ≡ tall (tree-in (now (nodes .entry)) root)) × (r ≤ 16) ⌝ }
 {
     if root == 0 {
         return 0;
@@ -166,7 +166,7 @@ pub fn height<P: PlaceKind>(nodes: &[Node<P, P::Region>], root: u16) -> u8
 /// The tree's row is the row of the present sets, where the tree is in order.
 pub fn one_row<P: PlaceKind>(nodes: &[Node<P, P::Region>], root: u16)
     requires shape { ⌜ shaped (now nodes) root ≡ true ⌝ }
-    ensures { λ _. ⌜ (Orderly (P·PlaceKind .model) (now (nodes .entry)) root → rowIn (now (nodes .entry)) root ≡ row (P·PlaceKind .model) (placeIn (now (nodes .entry))) (capacity (now (nodes .entry)))) ⌝ }
+    ensures { λ _. ⌜ (Orderly (P·PlaceKind .model) (now (nodes .entry)) root → row-in (now (nodes .entry)) root ≡ row (P·PlaceKind .model) (place-in (now (nodes .entry))) (capacity (now (nodes .entry)))) ⌝ }
 {
     row_laws::<P>();
 }

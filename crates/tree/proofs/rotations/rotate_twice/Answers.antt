@@ -2,7 +2,7 @@ use mathlib.Core.Path.{sym, subst}
 use Prim.Native.Nat.{_<_}
 use lib.ListN.{length}
 use native.Mathlib.Omega.{arith}
-use Rattle.tree.specs.Shapes.{rotatedTwice}
+use Rattle.tree.specs.Shapes.{rotated-twice}
 use Rattle.tree.specs.Contracted.{Done}
 use Rattle.tree.proofs.Held.{holds-root}
 use Rattle.tree.proofs.Writes.{both-first, both-second, both-third, done-done, opened, opened-three}
@@ -90,5 +90,5 @@ returns g c =
     (both-third m (c .place-at-middle .result) (o .v) (c .left-at-left .result) (c .right-at-right .result) z
     (o .left-is) (o .right-is) (c .args .p) (c .args .q) _ _ (omega arith) f h) in
     subst (λ t. Done (c .args .nodes .now) (c .plant-3 .last .nodes) (c .args .b)
-    (rotatedTwice m ta (c .args .s) (c .args .p) t (c .args .k) (c .args .q) tc)) (sym (o .is))
+    (rotated-twice m ta (c .args .s) (c .args .p) t (c .args .k) (c .args .q) tc)) (sym (o .is))
     (done-done m f (done-done m h i (λ j e. omega arith)) (λ j e. omega arith))

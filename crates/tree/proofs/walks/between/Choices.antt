@@ -1,4 +1,4 @@
-use Rattle.tree.specs.Slots.{at, countOf}
+use Rattle.tree.specs.Slots.{at, count-of}
 use Rattle.tree.proofs.Loops.{RunWays}
 use Rattle.tree.proofs.walks.between.Given as given
 
@@ -7,4 +7,4 @@ Inv-loop-keep g l =
     RunWays (g .P·PlaceKind .model) (l .nodes) (l .root) (l .slot) (l .first) (l .end) (l .skip) (l .keep)
 
 abbrev pub μ-loop-keep : given.MeasureT-loop-keep
-μ-loop-keep g l = countOf (at (l .nodes) (l .slot))
+μ-loop-keep g l = count-of (at (l .nodes) (l .slot))

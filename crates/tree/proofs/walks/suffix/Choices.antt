@@ -1,5 +1,5 @@
 use lib.ListN.{drop}
-use Rattle.tree.specs.Slots.{at, countOf}
+use Rattle.tree.specs.Slots.{at, count-of}
 use Rattle.tree.proofs.Loops.{SpanWays}
 use Rattle.tree.proofs.walks.suffix.Given as given
 
@@ -9,4 +9,4 @@ Inv-loop-slot g l =
     (l .joined)
 
 abbrev pub μ-loop-slot : given.MeasureT-loop-slot
-μ-loop-slot g l = countOf (at (l .nodes) (l .slot))
+μ-loop-slot g l = count-of (at (l .nodes) (l .slot))

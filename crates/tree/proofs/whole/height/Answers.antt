@@ -1,6 +1,6 @@
 use mathlib.Core.Path.{sym}
 use native.Mathlib.Omega.{arith}
-use Rattle.tree.specs.Whole.{treeIn}
+use Rattle.tree.specs.Whole.{tree-in}
 use Rattle.tree.proofs.Held.{height-is}
 use Rattle.tree.proofs.Balance.{low}
 use Rattle.tree.proofs.Shape.{shape-of, shape-few, shape-root, shape-flat}
@@ -23,7 +23,7 @@ pub returns : need.returns
 returns g c =
     let ns = c .args .nodes .now in
     let y = shape-of ns (c .args .root) (c .pre .shape) in
-    let a = height-is ns (c .args .root) (c .height-at .result) (treeIn ns (c .args .root)) (y .root-is)
+    let a = height-is ns (c .args .root) (c .height-at .result) (tree-in ns (c .args .root)) (y .root-is)
     (c .height-at .ensures) (y .held) in
-    let b = low (treeIn ns (c .args .root)) (y .balanced) (shape-few ns (c .args .root) _ y) in
+    let b = low (tree-in ns (c .args .root)) (y .balanced) (shape-few ns (c .args .root) _ y) in
     (a, omega arith)

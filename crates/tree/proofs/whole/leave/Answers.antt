@@ -5,7 +5,7 @@ use native.Mathlib.Omega.{arith}
 use Rattle.tree.specs.Slots.{idle}
 use Rattle.tree.specs.Tree.{size}
 use Rattle.tree.specs.Shapes.{shrunk}
-use Rattle.tree.specs.Whole.{treeIn, ShapeAt}
+use Rattle.tree.specs.Whole.{tree-in, ShapeAt}
 use Rattle.std.specs.Finite.{nth}
 use Rattle.tree.proofs.Held.{root-in, count-is}
 use Rattle.tree.proofs.Shape.{shape-of, shape-made}
@@ -50,11 +50,11 @@ returns-then-count-at-many g c =
     let pos : 0 < length ns = omega arith in
     let y = shape-of ns root (c .pre .shape) in
     let d = c .remove-rest .ensures _ (shape-tree-at m ns root _ y pos) in
-    let a = count-is ns root (c .count-at-many .result) (treeIn ns root) (y .root-is) (c .count-at-many .ensures)
+    let a = count-is ns root (c .count-at-many .result) (tree-in ns root) (y .root-is) (c .count-at-many .ensures)
     (y .held) in
-    let b = count-is ms res (c .count-at .result) (shrunk m (c .args .place) (c .args .set) (treeIn ns root)) (d .root)
+    let b = count-is ms res (c .count-at .result) (shrunk m (c .args .place) (c .args .set) (tree-in ns root)) (d .root)
     (c .count-at .ensures) (d .held) in
-    let same : size (shrunk m (c .args .place) (c .args .set) (treeIn ns root)) ≡ size (treeIn ns root) = sym b
+    let same : size (shrunk m (c .args .place) (c .args .set) (tree-in ns root)) ≡ size (tree-in ns root) = sym b
     ∙ c .if-count-at-many .taken ∙ a in
     let z = shape-stays m (c .args .set) (c .args .place) y (c .pre .there) d same in
     record {
@@ -78,15 +78,15 @@ returns g c =
     let pos : 0 < length ns = omega arith in
     let y = shape-of ns root (c .pre .shape) in
     let d = c .remove-rest .ensures _ (shape-tree-at m ns root _ y pos) in
-    let a = count-is ns root (c .count-at-many .result) (treeIn ns root) (y .root-is) (c .count-at-many .ensures)
+    let a = count-is ns root (c .count-at-many .result) (tree-in ns root) (y .root-is) (c .count-at-many .ensures)
     (y .held) in
-    let b = count-is ms res (c .count-at .result) (shrunk m (c .args .place) (c .args .set) (treeIn ns root)) (d .root)
+    let b = count-is ms res (c .count-at .result) (shrunk m (c .args .place) (c .args .set) (tree-in ns root)) (d .root)
     (c .count-at .ensures) (d .held) in
-    let ne : size (shrunk m (c .args .place) (c .args .set) (treeIn ns root)) ≡ size (treeIn ns root) → ⊥ = λ e.
+    let ne : size (shrunk m (c .args .place) (c .args .set) (tree-in ns root)) ≡ size (tree-in ns root) → ⊥ = λ e.
     c .if-count-at-many .left (b ∙ e ∙ sym a) in
     let w = was m (c .args .set) (c .args .place) y (c .pre .there) d ne in
     let is = c .clear .ensures (w .0) (w .1) in
-    let z = subst (λ n. ShapeAt n res (shrunk m (c .args .place) (c .args .set) (treeIn ns root))) (sym is)
+    let z = subst (λ n. ShapeAt n res (shrunk m (c .args .place) (c .args .set) (tree-in ns root))) (sym is)
     (shape-went m (c .args .set) (c .args .place) y (c .pre .there) d ne) in
     record {
       shape = shape-made end res _ z;

@@ -4,7 +4,7 @@ use native.Mathlib.Omega.{arith}
 use lib.Dec.{eqb}
 use Rattle.std.specs.declared.option.Option.the-variants.{Some, None}
 use Rattle.buckets.specs.Rows.{entry, inserted}
-use Rattle.tree.specs.Whole.{placeIn}
+use Rattle.tree.specs.Whole.{place-in}
 use Rattle.tree.proofs.Presence.{gone-count, cond-cond, still-absent, uncounted}
 use Rattle.tree.proofs.whole.relocate.Needs as need
 
@@ -16,10 +16,10 @@ returns-then-count-at-gt0 g c =
     let ns = c .args .nodes .now in
     record {
       shape = e .shape;
-      view = λ o. absurd (gone-count (c .leave-rest .last .nodes) s (placeIn ns s) (e .view o s) (omega arith)
+      view = λ o. absurd (gone-count (c .leave-rest .last .nodes) s (place-in ns s) (e .view o s) (omega arith)
           (omega (arith, c .count-at .ensures, c .if-count-at-gt0 .taken)));
       others = e .others;
-      order = λ o. absurd (gone-count (c .leave-rest .last .nodes) s (placeIn ns s) (e .view o s) (omega arith)
+      order = λ o. absurd (gone-count (c .leave-rest .last .nodes) s (place-in ns s) (e .view o s) (omega arith)
           (omega (arith, c .count-at .ensures, c .if-count-at-gt0 .taken)));
     }
 
@@ -44,7 +44,7 @@ returns g c =
     record {
       shape = f .shape;
       view = λ o j. f .view j ∙ ap (λ w. cond (eqb j s) (Some p) w) (e .view o j)
-          ∙ cond-cond (eqb j s) (Some p) None (placeIn ns j);
+          ∙ cond-cond (eqb j s) (Some p) None (place-in ns j);
       others = λ j none. f .others j
           (still-absent ns (c .leave-rest .last .nodes) (c .enter .last .nodes) s j p (c .args .old) (c .pre .there)
           none
