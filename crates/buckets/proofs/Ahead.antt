@@ -1,19 +1,19 @@
 -- Who stands first of two entries.
 use Rattle.std.proofs.Common.{◌≡◌, ℕ, ◌<◌, Bool, true, false, cond, eqb, ltb, ◌⊎◌, Ordering, Less, Equal, Greater, sym, refl, ap, ◌∙◌, subst, inl, inr, ⊎_elim, true≢false, arith}
 use mathlib.Core.Bool.{false≢true}
-use Rattle.std.proofs.lemmas.Bool.{lt_ltb, ltb_true, cases_order}
+use Rattle.std.proofs.lemmas.Bool.{lt-ltb, ltb-true, cases_order}
 use Rattle.std.specs.Ordering.{ordering_then, is_lt, ordering_reverse, nat_cmp}
 use Rattle.kinds.specs.Rules.{Model, Admitted, Laws}
 use Rattle.buckets.specs.Rows.{Entry, entry, ahead, AheadLaws}
 
 below_first : (x y : ℕ) → x < y → is_lt (nat_cmp x y) ≡ true
-below_first x y l = rw (lt_ltb x y l)
+below_first x y l = rw (lt-ltb x y l)
 
 first_below : (x y : ℕ) → is_lt (nat_cmp x y) ≡ true → x < y
 first_below x y = go (ltb x y) refl (eqb x y)
   where
     go : (b : Bool) → ltb x y ≡ b → (c : Bool) → is_lt (cond b Less (cond c Equal Greater)) ≡ true → x < y
-    go true e c h = ltb_true x y e
+    go true e c h = ltb-true x y e
     go false e true h = absurd (false≢true h)
     go false e false h = absurd (false≢true h)
 

@@ -1,8 +1,8 @@
 -- The ends of buckets: k to 2k − 1 ranks each, and each rank in one.
-use Rattle.std.proofs.Common.{◌≡◌, ℕ, suc, ◌+◌, ◌-◌, ◌*◌, ◌/◌, ◌%◌, ◌<◌, ◌≤◌, min, Bool, true, false, cond, eqb, ltb, ◌⊎◌, sym, refl, ap, ◌∙◌, subst, inl, inr, ⊎_elim, mul_le_mul_right, mod_lt, suc_mul, le_div_iff_mul_le, arith}
-use native.Mathlib.Nat.{min_eq_left, min_eq_right}
-use Rattle.std.proofs.lemmas.Nat.{div_add_mod'}
-use Rattle.std.proofs.lemmas.Bool.{cases_lt, cases_eq, eq_eqb, ne_eqb, eqb_true, eqb_false}
+use Rattle.std.proofs.Common.{◌≡◌, ℕ, suc, ◌+◌, ◌-◌, ◌*◌, ◌/◌, ◌%◌, ◌<◌, ◌≤◌, min, Bool, true, false, cond, eqb, ltb, ◌⊎◌, sym, refl, ap, ◌∙◌, subst, inl, inr, ⊎_elim, mul-le-mul_right, mod-lt, suc-mul, le-div_iff_mul-le, arith}
+use native.Mathlib.Nat.{min-eq_left, min-eq_right}
+use Rattle.std.proofs.lemmas.Nat.{div-add-mod'}
+use Rattle.std.proofs.lemmas.Bool.{cases_lt, cases_eq, eq-eqb, ne_eqb, eqb-true, eqb-false}
 use Rattle.buckets.specs.declared.Ends.{Ends}
 use Rattle.buckets.specs.Ends.{bucket_number, ends_of, Between, EndsLaws}
 
@@ -16,13 +16,13 @@ module _ (n k : ℕ) (hk : 1 ≤ k) (hn : k ≤ n) where
 
   cut : Cut
   cut =
-      let q : 1 ≤ n / k = (le_div_iff_mul_le {x = 1} hk).1 (omega arith) in
+      let q : 1 ≤ n / k = (le-div_iff_mul-le {x = 1} hk).1 (omega arith) in
       let e : suc (n / k - 1) ≡ n / k = omega arith in
       record {
         some = q;
-        n_is = div_add_mod' n k;
-        rest = mod_lt n hk;
-        last_is = sym (suc_mul (n / k - 1) k) ∙ ap (λ (x : ℕ). x * k) e;
+        n_is = div-add-mod' n k;
+        rest = mod-lt n hk;
+        last_is = sym (suc-mul (n / k - 1) k) ∙ ap (λ (x : ℕ). x * k) e;
       }
 
   -- A bucket is the last one, or one before it, which ends where the next starts.
@@ -34,13 +34,13 @@ module _ (n k : ℕ) (hk : 1 ≤ k) (hn : k ≤ n) where
   shape b l =
       ⊎_elim
       (λ e.
-      let t = eq_eqb b (n / k - 1) e in
+      let t = eq-eqb b (n / k - 1) e in
       the_last (ap (λ (x : ℕ). x * k + k) e ∙ cut.last_is) (rw t refl))
       (λ ne.
       let t = ne_eqb b (n / k - 1) ne in
       let h : suc b ≤ n / k - 1 = omega arith in
-      let up : suc b * k ≤ (n / k - 1) * k = mul_le_mul_right k h in
-      before_last (omega (arith, suc_mul b k, cut.last_is)) (rw t refl))
+      let up : suc b * k ≤ (n / k - 1) * k = mul-le-mul_right k h in
+      before_last (omega (arith, suc-mul b k, cut.last_is)) (rw t refl))
       (cases_eq b (n / k - 1))
 
   record Spread (b : ℕ) : Type 0 where
@@ -63,25 +63,25 @@ module _ (n k : ℕ) (hk : 1 ≤ k) (hn : k ≤ n) where
   number_below r l = let c = cut in omega arith
 
   quotient_most : (r : ℕ) → r < n → r / k ≤ n / k
-  quotient_most r l = let c = cut in (le_div_iff_mul_le hk).1 (omega (arith, div_add_mod' r k))
+  quotient_most r l = let c = cut in (le-div_iff_mul-le hk).1 (omega (arith, div-add-mod' r k))
 
   own : (r : ℕ) → r < n → Between (ends_of n k (bucket_number n k r)) r
   own r l = ⊎_elim low high (cases_lt (r / k) (n / k - 1))
     where
       low : r / k < n / k - 1 → Between (ends_of n k (bucket_number n k r)) r
       low h =
-          let b : bucket_number n k r ≡ r / k = min_eq_left (omega arith) in
+          let b : bucket_number n k r ≡ r / k = min-eq_left (omega arith) in
           let t = ne_eqb (r / k) (n / k - 1) (omega arith) in
-          let s = mod_lt r hk in
-          let d = div_add_mod' r k in
+          let s = mod-lt r hk in
+          let d = div-add-mod' r k in
           rw (b, t) (record { from = omega arith; upto = omega arith })
 
       high : n / k - 1 ≤ r / k → Between (ends_of n k (bucket_number n k r)) r
       high h =
-          let b : bucket_number n k r ≡ n / k - 1 = min_eq_right h in
-          let t = eq_eqb (n / k - 1) (n / k - 1) refl in
-          let up : (n / k - 1) * k ≤ r / k * k = mul_le_mul_right k h in
-          let d = div_add_mod' r k in
+          let b : bucket_number n k r ≡ n / k - 1 = min-eq_right h in
+          let t = eq-eqb (n / k - 1) (n / k - 1) refl in
+          let up : (n / k - 1) * k ≤ r / k * k = mul-le-mul_right k h in
+          let d = div-add-mod' r k in
           rw (b, t) (record { from = omega arith; upto = omega arith })
 
   -- Of two buckets, the lower one ends before the other starts.
@@ -90,13 +90,13 @@ module _ (n k : ℕ) (hk : 1 ≤ k) (hn : k ≤ n) where
     where
       go : Shape b → (ends_of n k b).last < d * k
       go (the_last p q) =
-          let up : suc b * k ≤ d * k = mul_le_mul_right k l in
+          let up : suc b * k ≤ d * k = mul-le-mul_right k l in
           let e : d ≤ n / k - 1 = omega arith in
-          let up2 : d * k ≤ (n / k - 1) * k = mul_le_mul_right k e in
-          absurd (omega (arith, suc_mul b k, cut.last_is))
+          let up2 : d * k ≤ (n / k - 1) * k = mul-le-mul_right k e in
+          absurd (omega (arith, suc-mul b k, cut.last_is))
       go (before_last p q) =
-          let up : suc b * k ≤ d * k = mul_le_mul_right k l in
-          omega (arith, suc_mul b k)
+          let up : suc b * k ≤ d * k = mul-le-mul_right k l in
+          omega (arith, suc-mul b k)
 
   no_other : (r b : ℕ) → r < n → b < n / k → Between (ends_of n k b) r → b ≡ bucket_number n k r
   no_other r b l h i =

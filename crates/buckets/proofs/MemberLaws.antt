@@ -1,7 +1,7 @@
 -- Ranks and the members of a run of ranks.
-use Rattle.std.proofs.Common.{◌≡◌, ℕ, zero, suc, ◌+◌, ◌-◌, ◌*◌, ◌/◌, ◌<◌, ◌≤◌, Bool, true, false, cond, eqb, ◌⊎◌, List, [], ◌∷◌, length, take, drop, sym, refl, ap, ◌∙◌, subst, inl, inr, ⊎_elim, arith, length_drop}
-use Rattle.std.proofs.lemmas.List.{length_take_le}
-use Rattle.std.proofs.lemmas.Bool.{eq_eqb, ne_eqb}
+use Rattle.std.proofs.Common.{◌≡◌, ℕ, zero, suc, ◌+◌, ◌-◌, ◌*◌, ◌/◌, ◌<◌, ◌≤◌, Bool, true, false, cond, eqb, ◌⊎◌, List, [], ◌∷◌, length, take, drop, sym, refl, ap, ◌∙◌, subst, inl, inr, ⊎_elim, arith, length-drop}
+use Rattle.std.proofs.lemmas.List.{length-take-le}
+use Rattle.std.proofs.lemmas.Bool.{eq-eqb, ne_eqb}
 use Rattle.buckets.specs.declared.Ends.{Ends}
 use Rattle.buckets.specs.Ends.{bucket_number, ends_of, EndsLaws}
 use Rattle.buckets.specs.Rows.{Entry, In, here, later, rank_of, OneEach}
@@ -28,7 +28,7 @@ module _ {P : Type 0} where
 
   -- The rank of an entry, and of one behind another.
   rank_here : (n : ℕ) (e : Entry P) (es : List (Entry P)) → e.set ≡ n → rank_of n (e ∷ es) ≡ 0
-  rank_here n e es q = rw (eq_eqb e.set n q) refl
+  rank_here n e es q = rw (eq-eqb e.set n q) refl
 
   rank_later : (n : ℕ) (f : Entry P) (fs : List (Entry P)) → (f.set ≡ n → ⊥) → rank_of n (f ∷ fs) ≡ suc (rank_of n fs)
   rank_later n f fs ne = rw (ne_eqb f.set n ne) refl
@@ -84,8 +84,8 @@ module _ {P : Type 0} where
         ≡ (ends_of (length es) k b).last + 1 - (ends_of (length es) k b).first
     size b l =
         let d = ends_of (length es) k b in
-        length_take_le (d.last + 1 - d.first) (drop d.first es)
-        (simp length_drop (omega (arith, laws.within b l)))
+        length-take-le (d.last + 1 - d.first) (drop d.first es)
+        (simp length-drop (omega (arith, laws.within b l)))
 
     own : (e : Entry P) → In e es
         → In e (members (ends_of (length es) k (bucket_number (length es) k (rank_of e.set es))) es)

@@ -1,8 +1,8 @@
 -- One step of the curve: from a cell in a square of side s + s into its quarter of side s, and out again.
-use Rattle.std.proofs.Common.{◌≡◌, ℕ, zero, suc, ◌+◌, ◌-◌, ◌/◌, ◌%◌, ◌<◌, ◌≤◌, ltb, ◌⊎◌, sym, refl, ap, ◌∙◌, inl, inr, ⊎_elim, mod_eq_of_lt, arith}
+use Rattle.std.proofs.Common.{◌≡◌, ℕ, zero, suc, ◌+◌, ◌-◌, ◌/◌, ◌%◌, ◌<◌, ◌≤◌, ltb, ◌⊎◌, sym, refl, ap, ◌∙◌, inl, inr, ⊎_elim, mod-eq_of_lt, arith}
 use mathlib.Core.Path.{subst⁻¹}
-use native.Mathlib.Nat.{mod_eq_sub_mod, div_eq_of_lt, div_eq_of_lt_le}
-use Rattle.std.proofs.lemmas.Bool.{lt_ltb, le_ltb}
+use native.Mathlib.Nat.{mod-eq-sub-mod, div-eq_of_lt, div-eq_of_lt-le}
+use Rattle.std.proofs.lemmas.Bool.{lt-ltb, le-ltb}
 use Rattle.std.proofs.lemmas.Bool.Decides.{leb_tells}
 use Rattle.curve.specs.declared.Cell.{Cell}
 use Rattle.curve.specs.Hilbert.{cell, digit, reflected, inner, outer}
@@ -15,32 +15,32 @@ pub same_cell : (a b c d : ℕ) → a ≡ c → b ≡ d → cell a b ≡ cell c 
 same_cell a b c d p q = cc
 
 high_mod : (n s : ℕ) → s ≤ n → n < s + s → n % s ≡ n - s
-high_mod n s h k = let p : n - s < s = omega arith in mod_eq_sub_mod h ∙ mod_eq_of_lt p
+high_mod n s h k = let p : n - s < s = omega arith in mod-eq-sub-mod h ∙ mod-eq_of_lt p
 
 -- What holds of each quarter holds of a cell's digit and inner cell.
 module _ (P : ℕ → Cell → Type 0) (s : ℕ) (c : Cell) (w : InSquare (s + s) c) where
   quarter_0 : c.x < s → c.y < s → P 0 (cell c.y c.x) → P (digit s c) (inner s c)
-  quarter_0 hx hy p = simp (lt_ltb c.x s hx, lt_ltb c.y s hy, mod_eq_of_lt hx, mod_eq_of_lt hy) p
+  quarter_0 hx hy p = simp (lt-ltb c.x s hx, lt-ltb c.y s hy, mod-eq_of_lt hx, mod-eq_of_lt hy) p
 
   quarter_1 : c.x < s → s ≤ c.y → P 1 (cell c.x (c.y - s)) → P (digit s c) (inner s c)
   quarter_1 hx hy p =
-      simp (lt_ltb c.x s hx, le_ltb c.y s hy, mod_eq_of_lt hx, high_mod c.y s hy w.y_below) p
+      simp (lt-ltb c.x s hx, le-ltb c.y s hy, mod-eq_of_lt hx, high_mod c.y s hy w.y_below) p
 
   quarter_2 : s ≤ c.x → s ≤ c.y → P 2 (cell (c.x - s) (c.y - s)) → P (digit s c) (inner s c)
   quarter_2 hx hy p =
-      simp (le_ltb c.x s hx, le_ltb c.y s hy, high_mod c.x s hx w.x_below, high_mod c.y s hy w.y_below) p
+      simp (le-ltb c.x s hx, le-ltb c.y s hy, high_mod c.x s hx w.x_below, high_mod c.y s hy w.y_below) p
 
   quarter_3 : s ≤ c.x → c.y < s → P 3 (cell (s - 1 - c.y) (s - 1 - (c.x - s))) → P (digit s c) (inner s c)
   quarter_3 hx hy p =
-      simp (le_ltb c.x s hx, lt_ltb c.y s hy, high_mod c.x s hx w.x_below, mod_eq_of_lt hy) p
+      simp (le-ltb c.x s hx, lt-ltb c.y s hy, high_mod c.x s hx w.x_below, mod-eq_of_lt hy) p
 
-  by_quarter :
+  by-quarter :
       (c.x < s → c.y < s → P 0 (cell c.y c.x))
       → (c.x < s → s ≤ c.y → P 1 (cell c.x (c.y - s)))
       → (s ≤ c.x → s ≤ c.y → P 2 (cell (c.x - s) (c.y - s)))
       → (s ≤ c.x → c.y < s → P 3 (cell (s - 1 - c.y) (s - 1 - (c.x - s))))
       → P (digit s c) (inner s c)
-  by_quarter p0 p1 p2 p3 =
+  by-quarter p0 p1 p2 p3 =
       ⊎_elim
       (λ hx. ⊎_elim (λ hy. quarter_0 hx hy (p0 hx hy)) (λ hy. quarter_1 hx hy (p1 hx hy)) (below_or_not c.y s))
       (λ hx. ⊎_elim (λ hy. quarter_3 hx hy (p3 hx hy)) (λ hy. quarter_2 hx hy (p2 hx hy)) (below_or_not c.y s))
@@ -54,7 +54,7 @@ pub record GoesIn (s : ℕ) (c : Cell) (d : ℕ) (i : Cell) : Type 0 where
 
 pub goes_in : (s : ℕ) (c : Cell) → InSquare (s + s) c → GoesIn s c (digit s c) (inner s c)
 goes_in s c w =
-    by_quarter (GoesIn s c) s c w
+    by-quarter (GoesIn s c) s c w
     (λ hx hy. record { low = omega arith; inside = record { x_below = hy; y_below = hx }; back = refl })
     (λ hx hy.
     record {
@@ -129,23 +129,23 @@ beside_across s (suc (suc (suc n))) p h = absurd (omega arith)
 pub halved : (s n : ℕ) → n < s + s → ((n < s) × (n / s ≡ 0)) ⊎ ((s ≤ n) × (n / s ≡ 1))
 halved s n h =
     ⊎_elim
-    (λ l. inl (l, div_eq_of_lt l))
-    (λ l. inr (l, div_eq_of_lt_le s (omega arith) (omega arith)))
+    (λ l. inl (l, div-eq_of_lt l))
+    (λ l. inr (l, div-eq_of_lt-le s (omega arith) (omega arith)))
     (below_or_not n s)
 
 -- The digit as the code works it out.
 pub digit_low : (s : ℕ) (c : Cell) → InSquare (s + s) c → c.x < s → (c.y / s ≡ digit s c) × (c.y / s < 4)
 digit_low s c w hx =
     ⊎_elim
-    (λ h. (h.1 ∙ sym (simp (lt_ltb c.x s hx, lt_ltb c.y s h.0)), omega (arith, h.1)))
-    (λ h. (h.1 ∙ sym (simp (lt_ltb c.x s hx, le_ltb c.y s h.0)), omega (arith, h.1)))
+    (λ h. (h.1 ∙ sym (simp (lt-ltb c.x s hx, lt-ltb c.y s h.0)), omega (arith, h.1)))
+    (λ h. (h.1 ∙ sym (simp (lt-ltb c.x s hx, le-ltb c.y s h.0)), omega (arith, h.1)))
     (halved s c.y w.y_below)
 
 pub digit_high : (s : ℕ) (c : Cell) → InSquare (s + s) c → s ≤ c.x → (3 - c.y / s ≡ digit s c) × (3 - c.y / s < 4)
 digit_high s c w hx =
     ⊎_elim
-    (λ h. (ap (λ (q : ℕ). 3 - q) h.1 ∙ sym (simp (le_ltb c.x s hx, lt_ltb c.y s h.0)), omega arith))
-    (λ h. (ap (λ (q : ℕ). 3 - q) h.1 ∙ sym (simp (le_ltb c.x s hx, le_ltb c.y s h.0)), omega arith))
+    (λ h. (ap (λ (q : ℕ). 3 - q) h.1 ∙ sym (simp (le-ltb c.x s hx, lt-ltb c.y s h.0)), omega arith))
+    (λ h. (ap (λ (q : ℕ). 3 - q) h.1 ∙ sym (simp (le-ltb c.x s hx, le-ltb c.y s h.0)), omega arith))
     (halved s c.y w.y_below)
 
 -- The inner cell as the code works it out, by the halves in which x and y lie.
@@ -163,21 +163,21 @@ module _ (s x y : ℕ) (w : InSquare (s + s) (cell x y)) where
       → (cell (s - 1 - y % s) (s - 1 - x % s) ≡ inner s (cell x y)) × InSquare s (cell (s - 1 - y % s) (s - 1 - x % s))
   inner_3 l e =
       with_inside _
-      (sym (simp (le_ltb x s (high_half x w.x_below (λ z. omega arith)), lt_ltb y s (low_half y w.y_below e))))
+      (sym (simp (le-ltb x s (high_half x w.x_below (λ z. omega arith)), lt-ltb y s (low_half y w.y_below e))))
 
   pub inner_0 : x / s ≤ y / s → y / s ≡ 0
       → (cell (y % s) (x % s) ≡ inner s (cell x y)) × InSquare s (cell (y % s) (x % s))
   inner_0 l e =
       with_inside _
-      (sym (simp (lt_ltb x s (low_half x w.x_below (omega arith)), lt_ltb y s (low_half y w.y_below e))))
+      (sym (simp (lt-ltb x s (low_half x w.x_below (omega arith)), lt-ltb y s (low_half y w.y_below e))))
 
   pub inner_12 : (y / s ≡ 0 → ⊥) → (cell (x % s) (y % s) ≡ inner s (cell x y)) × InSquare s (cell (x % s) (y % s))
   inner_12 e =
       let hy = high_half y w.y_below e in
       with_inside _
       (⊎_elim
-      (λ (h : x < s). sym (simp (lt_ltb x s h, le_ltb y s hy)))
-      (λ (h : s ≤ x). sym (simp (le_ltb x s h, le_ltb y s hy)))
+      (λ (h : x < s). sym (simp (lt-ltb x s h, le-ltb y s hy)))
+      (λ (h : s ≤ x). sym (simp (le-ltb x s h, le-ltb y s hy)))
       (below_or_not x s))
 
   pub not_both_high : y / s < x / s → (y / s ≡ 0 → ⊥) → ⊥

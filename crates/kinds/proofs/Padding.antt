@@ -1,8 +1,8 @@
 -- A region by water, as a message holds it, from the padded bytes of the region below.
 use Rattle.std.proofs.Common.{◌≡◌, ℕ, ◌+◌, ◌-◌, ◌≤◌, min, List, ◌++◌, length, take, replicate, Ok, Err, Result, sym, ap, ◌∙◌, arith}
-use lib.Seq.{take_append_add}
-use Rattle.std.proofs.lemmas.List.{take_replicate}
-use Rattle.std.proofs.lemmas.Bool.{le_leb}
+use lib.Seq.{take-append-add}
+use Rattle.std.proofs.lemmas.List.{take-replicate}
+use Rattle.std.proofs.lemmas.Bool.{le-leb}
 use Rattle.kinds.specs.declared.fault.KindFault.{KindFault}
 use Rattle.kinds.specs.Bytes.{le16}
 use Rattle.kinds.specs.Rules.{Model}
@@ -11,15 +11,15 @@ use Rattle.kinds.specs.Faults.{padded, region_bytes}
 
 region_bytes_in : {P R : Type 0} (m : Model P R) (region : R) → m.width ≤ 24
     → region_bytes m region ≡ Ok (padded m.width (m.bytes region))
-region_bytes_in m region h = simp (le_leb m.width 24 h)
+region_bytes_in m region h = simp (le-leb m.width 24 h)
 
 -- The first twenty bytes of a region that has at most twenty.
 twenty : (w : ℕ) (bytes : List ℕ) → w ≤ 20 → length bytes ≡ w → take 20 (padded w bytes) ≡ bytes ++ replicate (20 - w) 0
 twenty w bytes h e =
     let n : 20 ≡ length bytes + (20 - w) = omega arith in
     let l : 20 - w ≤ 24 - w = omega arith in
-    ap (λ (k : ℕ). take k (padded w bytes)) n ∙ take_append_add bytes (replicate (24 - w) 0) (20 - w)
-    ∙ ap (λ (t : List ℕ). bytes ++ t) (take_replicate (20 - w) (24 - w) 0 l)
+    ap (λ (k : ℕ). take k (padded w bytes)) n ∙ take-append-add bytes (replicate (24 - w) 0) (20 - w)
+    ∙ ap (λ (t : List ℕ). bytes ++ t) (take-replicate (20 - w) (24 - w) 0 l)
 
 module _ {P R : Type 0} (m : Model P R) (region : R) (low high : ℕ) (narrow : m.width ≤ 20)
     (fills : length (m.bytes region) ≡ m.width) where

@@ -1,6 +1,6 @@
 -- The key that a place on the plane carries, and what it tells of the place.
 use Rattle.std.specs.Prelude.{◌≡◌, ℕ, Bool, true, false, cond, ◌&&◌, Some, None, Option, ◌==◌, nat_eq, refl}
-use Rattle.std.proofs.Common.{sym, ap, ◌∙◌, rules, eq_eqb, eqb_true, arith}
+use Rattle.std.proofs.Common.{sym, ap, ◌∙◌, rules, eq-eqb, eqb-true, arith}
 use Rattle.std.proofs.lemmas.Bool.Decides.{nat_tests}
 use Rattle.curve.specs.declared.Cell.{Cell}
 use Rattle.curve.specs.Hilbert.{key_of, cell_of}
@@ -23,8 +23,8 @@ on false j k e = absurd (let z : ◌≡◌ {A = ℕ} 0 1 = cc in omega arith)
 pub carried_key : (c : Cell) (k : ℕ) → Some k ≡ grid_key c → LeadsBack c (Some k) → (k ≡ carried c) × (leads_back k c ≡ true)
 carried_key c k e l =
     let h = on (on_grid c) (key_of 12 c) k e in
-    let x : nat_eq (cell_of 12 k).x c.x ≡ true = eq_eqb _ _ (ap (λ (d : Cell). d.x) l.1) in
-    let y : nat_eq (cell_of 12 k).y c.y ≡ true = eq_eqb _ _ (ap (λ (d : Cell). d.y) l.1) in
+    let x : nat_eq (cell_of 12 k).x c.x ≡ true = eq-eqb _ _ (ap (λ (d : Cell). d.x) l.1) in
+    let y : nat_eq (cell_of 12 k).y c.y ≡ true = eq-eqb _ _ (ap (λ (d : Cell). d.y) l.1) in
     (simp h.0 h.1, simp (h.0, x, y))
 
 -- Places at one cell are one place.
@@ -43,7 +43,7 @@ pub cell_by_key : (a : PlanePlace) → on_grid (cell_of_place a) ≡ true → ce
 cell_by_key a g =
     let t : ((cell_of 12 a.key).x == a.x && (cell_of 12 a.key).y == a.y) ≡ true = simp g at a.back in
     let b = both_true _ _ t in
-    same_cell (cell_of 12 a.key) (cell_of_place a) (eqb_true _ _ b.0) (eqb_true _ _ b.1)
+    same_cell (cell_of 12 a.key) (cell_of_place a) (eqb-true _ _ b.0) (eqb-true _ _ b.1)
 
 -- So places on the grid with one key are one place.
 pub one_place : (a b : PlanePlace) → on_grid (cell_of_place a) ≡ true → on_grid (cell_of_place b) ≡ true → a.key ≡ b.key → a ≡ b

@@ -1,6 +1,6 @@
 -- What a message tells: its serial, region and text.
-use Rattle.std.proofs.Common.{◌≡◌, ℕ, ◌+◌, ◌-◌, ◌*◌, ◌/◌, ◌%◌, ◌<◌, ◌≤◌, Bool, true, false, ◌&&◌, leb, List, [], ◌∷◌, ◌++◌, length, take, replicate, sym, refl, ap, ◌∙◌, arith, length_append, rules}
-use lib.ListN.{length_replicate}
+use Rattle.std.proofs.Common.{◌≡◌, ℕ, ◌+◌, ◌-◌, ◌*◌, ◌/◌, ◌%◌, ◌<◌, ◌≤◌, Bool, true, false, ◌&&◌, leb, List, [], ◌∷◌, ◌++◌, length, take, replicate, sym, refl, ap, ◌∙◌, arith, length-append, rules}
+use lib.ListN.{length-replicate}
 use Rattle.std.proofs.lemmas.List.{take_at, append_cancel_left, append_cancel_right}
 use Rattle.std.proofs.lemmas.Bool.Decides.{nat_tests}
 use Rattle.kinds.specs.Faults.{padded}
@@ -19,13 +19,13 @@ serial_tells a b w v m n e = search rules
 text_length : (t : List ℕ) → text_fits t ≡ true → length (text_bytes t) ≡ 30
 text_length t h =
     let le : length t ≤ 30 = grind (arith, nat_tests) in
-    simp (length_append, length_replicate) (omega arith)
+    simp (length-append, length-replicate) (omega arith)
 
 text_tells : (t u : List ℕ) → length t ≡ length u → text_bytes t ≡ text_bytes u → t ≡ u
 text_tells t u l e = (split_front t _ u _ l e).0
 
 region_length : (w : ℕ) (b : List ℕ) → w ≤ 24 → length b ≡ w → length (padded w b) ≡ 24
-region_length w b h e = simp (length_append, length_replicate) (omega arith)
+region_length w b h e = simp (length-append, length-replicate) (omega arith)
 
 module _ {P R : Type 0} (m : Model P R) (l : Laws m) where
   size : (serial : ℕ) (region : R) (text : List ℕ) → m.width ≤ 24 → text_fits text ≡ true
@@ -34,8 +34,8 @@ module _ {P R : Type 0} (m : Model P R) (l : Laws m) where
   size serial region text w t =
       let r = region_length m.width (m.bytes region) w (l.bytes_length region w) in
       let u = text_length text t in
-      length_append (header serial m.width (length text)) (padded m.width (m.bytes region) ++ text_bytes text)
-      ∙ omega (arith, length_append (padded m.width (m.bytes region)) (text_bytes text))
+      length-append (header serial m.width (length text)) (padded m.width (m.bytes region) ++ text_bytes text)
+      ∙ omega (arith, length-append (padded m.width (m.bytes region)) (text_bytes text))
 
   all_tell : (s₁ s₂ : ℕ) (r₁ r₂ : R) (t₁ t₂ : List ℕ) → m.width ≤ 24 → text_fits t₁ ≡ true → text_fits t₂ ≡ true
       → message m s₁ r₁ t₁ ≡ message m s₂ r₂ t₂ → (s₁ ≡ s₂) × ((r₁ ≡ r₂) × (t₁ ≡ t₂))

@@ -1,8 +1,8 @@
 -- A ring of slots: what is read first, and what a write behind the last message adds.
 use Rattle.std.proofs.Common.{◌≡◌, ℕ, zero, suc, ◌+◌, ◌-◌, ◌*◌, ◌<◌, ◌≤◌, ◌⊎◌, List, [], ◌∷◌, ◌++◌, length, take, drop, sym, refl, ap, ◌∙◌, inl, inr, arith}
 use borrow.Rule.Slice.PartMut.{put_mid, post_of}
-use Rattle.std.proofs.lemmas.Slice.{take_put_mid_below, drop_put_mid}
-use Rattle.std.proofs.lemmas.List.{length_take_le, drop_at, take_at, drop_take}
+use Rattle.std.proofs.lemmas.Slice.{take-put_mid_below, drop-put_mid}
+use Rattle.std.proofs.lemmas.List.{length-take-le, drop_at, take_at, drop-take}
 use Rattle.std.proofs.lemmas.Bool.{cases_lt}
 use Rattle.lines.specs.Ring.{message_at, next_slot, slot_after, ring}
 
@@ -21,7 +21,7 @@ written : (bytes m : List ℕ) (i : ℕ) → 64 * i + 64 ≤ length bytes → le
     → message_at (put_mid (64 * i) 64 bytes m) i ≡ m
 written bytes m i h e =
     let le : 64 * i ≤ length bytes = omega arith in
-    let a : length (take (64 * i) bytes) ≡ 64 * i = length_take_le (64 * i) bytes le in
+    let a : length (take (64 * i) bytes) ≡ 64 * i = length-take-le (64 * i) bytes le in
     ap (take 64) (drop_at (take (64 * i) bytes) (m ++ post_of (64 * i) 64 bytes) (64 * i) a)
     ∙ take_at m (post_of (64 * i) 64 bytes) 64 e
 
@@ -33,11 +33,11 @@ not_written bytes m i j h e ne =
     elim either [
       | inl l ↦
           (let b : 64 * j + 64 ≤ 64 * i = omega arith in
-          sym (drop_take (64 * j) 64 (put_mid (64 * i) 64 bytes m))
-          ∙ (ap (drop (64 * j)) (take_put_mid_below (64 * i) 64 bytes m (64 * j + 64) b le) ∙ drop_take (64 * j) 64 bytes))
+          sym (drop-take (64 * j) 64 (put_mid (64 * i) 64 bytes m))
+          ∙ (ap (drop (64 * j)) (take-put_mid_below (64 * i) 64 bytes m (64 * j + 64) b le) ∙ drop-take (64 * j) 64 bytes))
       | inr l ↦
           (let b : 64 * i + 64 ≤ 64 * j = omega arith in
-          ap (take 64) (drop_put_mid (64 * i) 64 bytes m (64 * j) b le e))
+          ap (take 64) (drop-put_mid (64 * i) 64 bytes m (64 * j) b le e))
     ]
 
 after_next : (n i k : ℕ) → i < n → k + 1 < n → slot_after n i (k + 1) ≡ slot_after n (next_slot n i) k

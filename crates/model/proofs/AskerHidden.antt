@@ -1,6 +1,6 @@
 -- The asker is hidden.
 use Rattle.std.proofs.Common.{◌≡◌, ℕ, zero, suc, ◌+◌, ◌≤◌, Bool, cond, leb, List, [], ◌∷◌, length, is_some, Some, None, Option, sym, refl, ap, ◌∙◌, subst, arith}
-use Rattle.std.proofs.lemmas.Bool.{leb_true, and_parts}
+use Rattle.std.proofs.lemmas.Bool.{leb-true, and_parts}
 use Rattle.refusals.specs.declared.Refusal.{Refusal}
 use Rattle.kinds.specs.Rules.{Model}
 use Rattle.buckets.specs.Ends.{bucket_number, ends_of}
@@ -192,7 +192,7 @@ module _ {P R : Type 0} {m : Model P R} (box : Box m) where
         let es = row box g in
         let x = entry n b.place in
         let ix : In x es = holds.everyone n b.place b.present in
-        let two = leb_true 2 k (and_parts (leb 2 k) (leb k 64) b.allowed).0 in
+        let two = leb-true 2 k (and_parts (leb 2 k) (leb k 64) b.allowed).0 in
         let one : 1 ≤ k = omega arith in
         let each = laws.one_each (place_of g) box.capacity holds.admitted in
         let iy : In (entry o p) es =

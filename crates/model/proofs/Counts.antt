@@ -1,6 +1,6 @@
 -- Counting over a list of serials.
 use Rattle.std.proofs.Common.{◌≡◌, ℕ, ◌+◌, ◌≤◌, Bool, true, false, cond, eqb, ◌⊎◌, List, [], ◌∷◌, sym, refl, ap, subst, inl, inr, arith}
-use Rattle.std.proofs.lemmas.Bool.{ne_eqb, eqb_true, eqb_false}
+use Rattle.std.proofs.lemmas.Bool.{ne_eqb, eqb-true, eqb-false}
 use Rattle.open_queries.specs.declared.entry.Stage.{Stage}
 use Rattle.buckets.specs.Rows.{In, here, later}
 use Rattle.model.specs.Histories.{count}
@@ -37,7 +37,7 @@ times_in s [] l = absurd (omega arith)
 times_in s (x ∷ xs) l = go (eqb x s) refl l (times_in s xs)
   where
     go : (b : Bool) → eqb x s ≡ b → 1 ≤ cond b (1 + times s xs) (times s xs) → (1 ≤ times s xs → In s xs) → In s (x ∷ xs)
-    go true e l rest = subst (λ u. In u (x ∷ xs)) (eqb_true x s e) here
+    go true e l rest = subst (λ u. In u (x ∷ xs)) (eqb-true x s e) here
     go false e l rest = later (rest l)
 
 pub times_once : (s : ℕ) (xs : List ℕ) → Distinct xs → times s xs ≤ 1
@@ -46,7 +46,7 @@ times_once s (x ∷ xs) d = go (eqb x s) refl (times_once s xs d.1)
   where
     go : (b : Bool) → eqb x s ≡ b → times s xs ≤ 1 → cond b (1 + times s xs) (times s xs) ≤ 1
     go true e i =
-        let z = times_none s xs (subst (λ u. In u xs → ⊥) (eqb_true x s e) d.0) in
+        let z = times_none s xs (subst (λ u. In u xs → ⊥) (eqb-true x s e) d.0) in
         omega arith
     go false e i = i
 
@@ -76,12 +76,12 @@ module _ (p : Stage → Bool) (f : ℕ → Stage) (s : ℕ) (x : Stage) where
           → (In s ts → count (λ t. p (cond (eqb s t) x (f t))) ts + bit (p (f s)) ≡ count (λ t. p (f t)) ts + bit (p x))
           → count (λ t. p (cond (eqb s t) x (f t))) (t ∷ ts) + bit (p (f s)) ≡ count (λ t. p (f t)) (t ∷ ts) + bit (p x)
       go true e j rest =
-          let z : s ≡ t = eqb_true s t e in
+          let z : s ≡ t = eqb-true s t e in
           let k = count_apart ts (subst (λ u. In u ts → ⊥) (sym z) d.0) in
           let c : bit (p (cond (eqb s t) x (f t))) ≡ bit (p x) = rw e in
           let w : bit (p (f t)) ≡ bit (p (f s)) = ap (λ u. bit (p (f u))) (sym z) in
           omega (arith, a, b)
-      go false e (inl z) rest = absurd (eqb_false s t e z)
+      go false e (inl z) rest = absurd (eqb-false s t e z)
       go false e (inr j) rest =
           let k = rest j in
           let c : bit (p (cond (eqb s t) x (f t))) ≡ bit (p (f t)) = rw e in

@@ -1,6 +1,6 @@
 -- The members of a bucket, from the laws of buckets.
 use Rattle.std.proofs.Common.{◌≡◌, ℕ, zero, suc, ◌+◌, ◌-◌, ◌/◌, ◌<◌, ◌≤◌, Bool, true, false, cond, eqb, ◌⊎◌, List, [], ◌∷◌, length, take, drop, Some, sym, refl, ap, ◌∙◌, subst, inl, inr, ⊎_elim, true≢false, arith}
-use Rattle.std.proofs.lemmas.Bool.{eq_eqb}
+use Rattle.std.proofs.lemmas.Bool.{eq-eqb}
 use Rattle.kinds.specs.Rules.{Model, Within}
 use Rattle.buckets.specs.declared.Ends.{Ends}
 use Rattle.buckets.specs.Ends.{bucket_number, ends_of, EndsLaws}
@@ -52,7 +52,7 @@ module _ {P : Type 0} where
           → cond b 0 (suc (rank_of x.set ys)) < suc (length ys)
       go true e j rest = omega arith
       go false e (inl q) rest =
-          let z : eqb y.set x.set ≡ true = eq_eqb y.set x.set (ap (λ (u : Entry P). u.set) (sym q)) in
+          let z : eqb y.set x.set ≡ true = eq-eqb y.set x.set (ap (λ (u : Entry P). u.set) (sym q)) in
           absurd (true≢false (sym z ∙ e))
       go false e (inr j) rest = let r = rest j in omega arith
 

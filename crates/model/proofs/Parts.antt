@@ -1,8 +1,8 @@
 -- What the parts hold after one more event, and what they answer.
-use Rattle.std.proofs.Common.{◌≡◌, ℕ, ◌+◌, ◌≤◌, Bool, true, false, cond, eqb, leb, List, [], ◌∷◌, length, drop, is_some, is_ok, Some, None, Ok, Err, Option, Result, sym, refl, ap, ◌∙◌, subst, add_comm, arith, length_append, length_drop}
+use Rattle.std.proofs.Common.{◌≡◌, ℕ, ◌+◌, ◌≤◌, Bool, true, false, cond, eqb, leb, List, [], ◌∷◌, length, drop, is_some, is_ok, Some, None, Ok, Err, Option, Result, sym, refl, ap, ◌∙◌, subst, add_comm, arith, length-append, length-drop}
 use mathlib.Core.Bool.{false≢true}
-use Rattle.std.proofs.lemmas.List.{drop_drop, drop_append_le}
-use Rattle.std.proofs.lemmas.Bool.{eqb_true, eqb_false, leb_true}
+use Rattle.std.proofs.lemmas.List.{drop-drop, drop-append-le}
+use Rattle.std.proofs.lemmas.Bool.{eqb-true, eqb-false, leb-true}
 use Rattle.refusals.specs.declared.Refusal.{Refusal}
 use Rattle.kinds.specs.declared.fault.KindFault.{KindFault}
 use Rattle.kinds.specs.Rules.{Model}
@@ -71,7 +71,7 @@ at_one : (f : ℕ → Stage) (by : ℕ → ℕ) (n s : ℕ) (x : Stage) (change 
 at_one f by n s x change same = go (eqb n s) refl
   where
     go : (b : Bool) → eqb n s ≡ b → staged (cond b x (f s)) (by s) ≡ cond b (change (staged (f s) (by s))) (staged (f s) (by s))
-    go true e = subst (λ u. staged x (by u) ≡ change (staged (f u) (by u))) (eqb_true n s e) same
+    go true e = subst (λ u. staged x (by u) ≡ change (staged (f u) (by u))) (eqb-true n s e) same
     go false e = refl
 
 status_changed : (next : ℕ) (f : ℕ → Stage) (by : ℕ → ℕ) (s : ℕ) (c : Option Change) → Fits next f c
@@ -116,18 +116,18 @@ next_changed first xs (Some (gives_up s)) = omega arith
 -- What waits: a message joins at the end, and a take removes the oldest.
 longer : (o : Option (List ℕ)) (ms : List (List ℕ)) → length ms ≤ length (with_message o ms)
 longer None ms = omega arith
-longer (Some x) ms = let a = length_append ms (x ∷ []) in omega arith
+longer (Some x) ms = let a = length-append ms (x ∷ []) in omega arith
 
 joins : (n : ℕ) (ms : List (List ℕ)) (o : Option (List ℕ)) → n ≤ length ms → drop n (with_message o ms) ≡ with_message o (drop n ms)
 joins n ms None l = refl
-joins n ms (Some x) l = drop_append_le n ms (x ∷ []) l
+joins n ms (Some x) l = drop-append-le n ms (x ∷ []) l
 
 drop_one : (ms : List (List ℕ)) → drop 1 ms ≡ newer ms
 drop_one [] = refl
 drop_one (x ∷ ms) = refl
 
 leaves : (n : ℕ) (ms : List (List ℕ)) → drop (1 + n) ms ≡ newer (drop n ms)
-leaves n ms = ap (λ k. drop k ms) (add_comm 1 n) ∙ sym (drop_drop 1 n ms) ∙ drop_one (drop n ms)
+leaves n ms = ap (λ k. drop k ms) (add_comm 1 n) ∙ sym (drop-drop 1 n ms) ∙ drop_one (drop n ms)
 
 -- A take finds a message.
 abbrev Finds : Bool → List (List ℕ) → Type 0
@@ -142,7 +142,7 @@ module _ {P R : Type 0} {m : Model P R} (box : Box m) where
   finds (asked q) h l = tt
   finds (taken b c) h l =
       let k = when_passed (eqb (length (waiting box h)) 0) _ (accepted_passed box (taken b c) h refl l).0.1.0 in
-      let z = eqb_false (length (waiting box h)) 0 k in
+      let z = eqb-false (length (waiting box h)) 0 k in
       omega arith
   finds (collected s g) h l = tt
   finds (handed_over g n) h l = tt
@@ -157,7 +157,7 @@ module _ {P R : Type 0} {m : Model P R} (box : Box m) where
       go : (b : Bool) → Finds b (waiting box h) → count is_take h ≤ length (sent box h)
           → length (sent box h) ≤ length (with_message (message_of box h (asked_in e)) (sent box h))
           → cond b (1 + count is_take h) (count is_take h) ≤ length (with_message (message_of box h (asked_in e)) (sent box h))
-      go true f i k = let d = length_drop (count is_take h) (sent box h) in omega arith
+      go true f i k = let d = length-drop (count is_take h) (sent box h) in omega arith
       go false f i k = omega arith
 
   waits_after : (e : Event P) (h : History P) → Life box h
@@ -198,7 +198,7 @@ module _ {P R : Type 0} {m : Model P R} (box : Box m) where
     unchanged n s change same = go (eqb n s) refl
       where
         go : (b : Bool) → eqb n s ≡ b → status h s ≡ cond b (change (status h s)) (status h s)
-        go true e = subst (λ u. status h u ≡ change (status h u)) (eqb_true n s e) same
+        go true e = subst (λ u. status h u ≡ change (status h u)) (eqb-true n s e) same
         go false e = refl
 
     after_outcome : (c : Call P) (e : Event P) → outcome box h c ≡ e → Follows box h e
@@ -386,7 +386,7 @@ module _ {P R : Type 0} {m : Model P R} (box : Box m) where
               (λ b o e.
               let at = some_of (place_of h n) o in
               let has : HasBucket box h n k =
-              record { place = at.0; present = at.1; allowed = b; enough = leb_true k (length (row box h)) e } in
+              record { place = at.0; present = at.1; allowed = b; enough = leb-true k (length (row box h)) e } in
               ap is_some (bucketed box laws ends members regions h l n k has).region.is));
           bucket_same = λ at e n k.
               ap

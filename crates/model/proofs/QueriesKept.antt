@@ -1,7 +1,7 @@
 -- Queries are kept.
 use Rattle.std.proofs.Common.{◌≡◌, ℕ, ◌+◌, ◌<◌, Bool, true, false, cond, eqb, ◌⊎◌, List, [], ◌∷◌, length, Some, None, Option, sym, refl, ap, subst, inl, inr, ⊎_elim, arith}
 use mathlib.Core.Bool.{false≢true}
-use Rattle.std.proofs.lemmas.Bool.{eq_eqb, eqb_true, eqb_false}
+use Rattle.std.proofs.lemmas.Bool.{eq-eqb, eqb-true, eqb-false}
 use Rattle.kinds.specs.Rules.{Model}
 use Rattle.buckets.specs.Rows.{In}
 use Rattle.open_queries.specs.declared.entry.Stage.{Stage}
@@ -75,7 +75,7 @@ module _ {first : ℕ} {xs : List ℕ} {f : ℕ → Stage} {handed given : ℕ} 
     where
       go : (t : ℕ) (b : Bool) → eqb s t ≡ b → ended t + live (cond b x (f t)) ≡ times t xs
       go t true e =
-          let y : live (f t) ≡ 1 = subst (λ u. live (f u) ≡ 1) (eqb_true s t e) l in
+          let y : live (f t) ≡ 1 = subst (λ u. live (f u) ≡ 1) (eqb-true s t e) l in
           let o = i.once t in
           omega arith
       go t false e = i.once t
@@ -98,7 +98,7 @@ module _ {first : ℕ} {xs : List ℕ} {f : ℕ → Stage} {handed given : ℕ} 
     where
       go : (t : ℕ) (b : Bool) → eqb s t ≡ b → cond b (1 + ended t) (ended t) + live (cond b Free (f t)) ≡ times t xs
       go t true e =
-          let y : live (f t) ≡ 1 = subst (λ u. live (f u) ≡ 1) (eqb_true s t e) l in
+          let y : live (f t) ≡ 1 = subst (λ u. live (f u) ≡ 1) (eqb-true s t e) l in
           let o = i.once t in
           omega arith
       go t false e = i.once t
@@ -114,7 +114,7 @@ module _ {first : ℕ} {xs : List ℕ} {f : ℕ → Stage} {handed given : ℕ} 
             let h = count_apart is_in_hand f s Open xs fresh in
             let a = count_cons (λ t. is_open (cond (eqb s t) Open (f t))) s xs in
             let c = count_cons (λ t. is_in_hand (cond (eqb s t) Open (f t))) s xs in
-            let e = eq_eqb s s refl in
+            let e = eq-eqb s s refl in
             let a' : bit (is_open (cond (eqb s s) Open (f s))) ≡ 1 = rw e in
             let c' : bit (is_in_hand (cond (eqb s s) Open (f s))) ≡ 0 = rw e in
             let q = i.balance in
@@ -127,7 +127,7 @@ module _ {first : ℕ} {xs : List ℕ} {f : ℕ → Stage} {handed given : ℕ} 
 
       go : (t : ℕ) (b : Bool) → eqb s t ≡ b → ended t + live (cond b Open (f t)) ≡ cond b (1 + times t xs) (times t xs)
       go t true e =
-          let z = times_none t xs (subst (λ u. In u xs → ⊥) (eqb_true s t e) fresh) in
+          let z = times_none t xs (subst (λ u. In u xs → ⊥) (eqb-true s t e) fresh) in
           let o = i.once t in
           omega arith
       go t false e = i.once t
@@ -171,8 +171,8 @@ module _ {P R : Type 0} {m : Model P R} (box : Box m) where
       find : (q : Query) → asked_in e ≡ Some q → (b : Bool) → eqb q.serial s ≡ b → (s ≡ q.serial) ⊎ In s (serials h)
           → (In s (serials h) → Put (asker h s) s h) → Put (cond b q.set (asker h s)) s (e ∷ h)
       find q z true t j rest =
-          newest (subst (λ u. asked_in e ≡ Some (query_by q.set q.size q.text u)) (eqb_true q.serial s t) z)
-      find q z false t (inl y) rest = absurd (eqb_false q.serial s t (sym y))
+          newest (subst (λ u. asked_in e ≡ Some (query_by q.set q.size q.text u)) (eqb-true q.serial s t) z)
+      find q z false t (inl y) rest = absurd (eqb-false q.serial s t (sym y))
       find q z false t (inr j) rest = earlier (rest j)
 
       go : (o : Option Query) → asked_in e ≡ o → In s (with_query o (serials h)) → (In s (serials h) → Put (asker h s) s h)

@@ -1,7 +1,7 @@
 -- The region is the least.
 use Rattle.std.proofs.Common.{◌≡◌, ℕ, ◌-◌, ◌*◌, ◌≤◌, Bool, true, false, cond, eqb, leb, [], ◌∷◌, length, is_some, is_ok, Some, None, Ok, Err, Option, Result, sym, refl, ap, subst, arith}
 use mathlib.Core.Bool.{false≢true}
-use Rattle.std.proofs.lemmas.Bool.{eqb_true, leb_true, and_parts}
+use Rattle.std.proofs.lemmas.Bool.{eqb-true, leb-true, and_parts}
 use Rattle.kinds.specs.declared.fault.KindFault.{KindFault}
 use Rattle.kinds.specs.declared.fault.KindFault.TheVariants.{NotAdmitted}
 use Rattle.kinds.specs.Rules.{Model, Admitted}
@@ -64,7 +64,7 @@ module _ {P R : Type 0} {m : Model P R} (box : Box m) where
     where
       pick : (w : ℕ × Option P) → Proper w.0 w.1 → Proper n (place_of h n) → (b : Bool) → eqb n w.0 ≡ b
           → Proper n (cond b w.1 (place_of h n))
-      pick w k r true e = subst (λ u. Proper u w.1) (sym (eqb_true n w.0 e)) k
+      pick w k r true e = subst (λ u. Proper u w.1) (sym (eqb-true n w.0 e)) k
       pick w k r false e = r
 
       go : (o : Option (ℕ × Option P)) → ProperChange o → Proper n (place_of h n) → Proper n (placed_by o n (place_of h n))
@@ -84,7 +84,7 @@ module _ {P R : Type 0} {m : Model P R} (box : Box m) where
         is_row = r;
         everyone = λ n p e.
             let k = and_parts (leb 1 n) (leb n box.capacity) (present_proper h l n p e).0 in
-            r.holds n p (leb_true 1 n k.0) (leb_true n box.capacity k.1) e;
+            r.holds n p (leb-true 1 n k.0) (leb-true n box.capacity k.1) e;
       }
 
   -- The bucket of a query that has one.
@@ -100,7 +100,7 @@ module _ {P R : Type 0} {m : Model P R} (box : Box m) where
     pub bucketed : (h : History P) → Life box h → (n k : ℕ) → HasBucket box h n k → Bucketed h n k
     bucketed h l n k b =
         let es = row box h in
-        let two = leb_true 2 k (and_parts (leb 2 k) (leb k 64) b.allowed).0 in
+        let two = leb-true 2 k (and_parts (leb 2 k) (leb k 64) b.allowed).0 in
         let one : 1 ≤ k = omega arith in
         let holds = row_holds rows h l in
         let x = entry n b.place in
@@ -130,7 +130,7 @@ module _ {P R : Type 0} {m : Model P R} (box : Box m) where
           place = at.0;
           present = at.1;
           allowed = unless_passed (size_allowed q.size) _ passed.1.0;
-          enough = leb_true q.size (length (row box h)) (unless_passed (leb q.size (length (row box h))) _ passed.1.1.1.1.1.0);
+          enough = leb-true q.size (length (row box h)) (unless_passed (leb q.size (length (row box h))) _ passed.1.1.1.1.1.0);
         }) in
         record {
           present = b.present;

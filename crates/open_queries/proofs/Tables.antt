@@ -1,7 +1,7 @@
 -- A table in which one entry changes: what it then says of each serial, and how many entries are in use.
-use Rattle.std.proofs.Common.{◌≡◌, ℕ, zero, suc, ◌+◌, ◌-◌, ◌<◌, ◌≤◌, Bool, true, false, cond, eqb, ltb, ◌⊎◌, List, [], ◌∷◌, ◌++◌, length, get_or, take, set, Some, None, Option, sym, refl, ap, ◌∙◌, subst, inl, inr, le_of_suc_le_suc, arith, rules}
+use Rattle.std.proofs.Common.{◌≡◌, ℕ, zero, suc, ◌+◌, ◌-◌, ◌<◌, ◌≤◌, Bool, true, false, cond, eqb, ltb, ◌⊎◌, List, [], ◌∷◌, ◌++◌, length, get_or, take, set, Some, None, Option, sym, refl, ap, ◌∙◌, subst, inl, inr, le_of_suc-le-suc, arith, rules}
 use Rattle.std.proofs.lemmas.Bool.{cases_Bool, cases_eq}
-use Rattle.std.proofs.lemmas.List.{take_more, get_or_set_same, length_set}
+use Rattle.std.proofs.lemmas.List.{take_more, get_or-set_same, length-set}
 use Rattle.open_queries.specs.declared.entry.Stage.{Stage}
 use Rattle.open_queries.specs.declared.entry.Stage.TheVariants.{Free, Open, InHand}
 use Rattle.open_queries.specs.declared.entry.Entry.{Entry}
@@ -12,12 +12,12 @@ use Rattle.open_queries.specs.Marks.{in_stage, asker, marked, mark_answer, weigh
 pub holders_set : (es : List Entry) (i : ℕ) (e : Entry) (s : ℕ) → i < length es → holders (set es i e) s + has (get_or es i free_entry) s ≡ holders es s + has e s
 holders_set [] i e s h = absurd (omega arith)
 holders_set (x ∷ es) zero e s h = omega arith
-holders_set (x ∷ es) (suc i) e s h = let ih = holders_set es i e s (le_of_suc_le_suc h) in omega arith
+holders_set (x ∷ es) (suc i) e s h = let ih = holders_set es i e s (le_of_suc-le-suc h) in omega arith
 
 pub in_use_set : (es : List Entry) (i : ℕ) (e : Entry) → i < length es → in_use (set es i e) + used (get_or es i free_entry).stage ≡ in_use es + used e.stage
 in_use_set [] i e h = absurd (omega arith)
 in_use_set (x ∷ es) zero e h = omega arith
-in_use_set (x ∷ es) (suc i) e h = let ih = in_use_set es i e (le_of_suc_le_suc h) in omega arith
+in_use_set (x ∷ es) (suc i) e h = let ih = in_use_set es i e (le_of_suc-le-suc h) in omega arith
 
 pub holders_append : (xs ys : List Entry) (s : ℕ) → holders (xs ++ ys) s ≡ holders xs s + holders ys s
 holders_append [] ys s = omega arith
@@ -54,21 +54,21 @@ first_is e s y h = grind arith
 holders_at : (es : List Entry) (i s : ℕ) → i < length es → has (get_or es i free_entry) s ≡ 1 → 1 ≤ holders es s
 holders_at [] i s l h = absurd (omega arith)
 holders_at (e ∷ es) zero s l h = omega arith
-holders_at (e ∷ es) (suc i) s l h = let ih = holders_at es i s (le_of_suc_le_suc l) h in omega arith
+holders_at (e ∷ es) (suc i) s l h = let ih = holders_at es i s (le_of_suc-le-suc l) h in omega arith
 
 pub table_status_found : (es : List Entry) (i s : ℕ) → i < length es → has (get_or es i free_entry) s ≡ 1 → holders es s ≤ 1 → table_status es s ≡ entry_status (get_or es i free_entry) s
 table_status_found [] i s l h u = absurd (omega arith)
 table_status_found (e ∷ es) zero s l h u = first_is e s (table_status es s) h
 table_status_found (e ∷ es) (suc i) s l h u =
-    let b : 1 ≤ holders es s = holders_at es i s (le_of_suc_le_suc l) h in
+    let b : 1 ≤ holders es s = holders_at es i s (le_of_suc-le-suc l) h in
     let z : has e s ≡ 0 = omega arith in
     let v : holders es s ≤ 1 = omega arith in
-    rw (entry_none e s z) (table_status_found es i s (le_of_suc_le_suc l) h v)
+    rw (entry_none e s z) (table_status_found es i s (le_of_suc-le-suc l) h v)
 
 pub table_status_other : (es : List Entry) (i : ℕ) (e : Entry) (s : ℕ) → i < length es → has (get_or es i free_entry) s ≡ 0 → has e s ≡ 0 → table_status (set es i e) s ≡ table_status es s
 table_status_other [] i e s l h k = refl
 table_status_other (x ∷ es) zero e s l h k = rw (entry_none x s h, entry_none e s k)
-table_status_other (x ∷ es) (suc i) e s l h k = ap (or_else (entry_status x s)) (table_status_other es i e s (le_of_suc_le_suc l) h k)
+table_status_other (x ∷ es) (suc i) e s l h k = ap (or_else (entry_status x s)) (table_status_other es i e s (le_of_suc-le-suc l) h k)
 
 -- an entry in use takes another stage
 abbrev pub turned : Entry → Stage → Entry
@@ -134,8 +134,8 @@ has_used e n st h u = grind arith
 table_status_used : (es : List Entry) (i n : ℕ) (st : Stage) → i < length es → has (get_or es i free_entry) n ≡ 1 → holders es n ≤ 1 → used st ≡ 1 → table_status (set es i (turned (get_or es i free_entry) st)) n ≡ staged st (get_or es i free_entry).set
 table_status_used es i n st l h u k =
     let e = turned (get_or es i free_entry) st in
-    let g : get_or (set es i e) i free_entry ≡ e = get_or_set_same es i e free_entry l in
-    let l2 : i < length (set es i e) = rw length_set l in
+    let g : get_or (set es i e) i free_entry ≡ e = get_or-set_same es i e free_entry l in
+    let l2 : i < length (set es i e) = rw length-set l in
     let h2 : has (get_or (set es i e) i free_entry) n ≡ 1 = ap (λ (x : Entry). has x n) g ∙ has_used (get_or es i free_entry) n st h k in
     let u1 = holders_turned es i n st n l h in
     let u2 : holders (set es i e) n ≤ 1 = omega arith in
@@ -209,7 +209,7 @@ pub in_use_room : (es : List Entry) (i : ℕ) → i < length es → used (get_or
 in_use_room es i l f =
     let a = in_use_set es i (fresh 0 0) l in
     let b = in_use_bound (set es i (fresh 0 0)) in
-    let c : length (set es i (fresh 0 0)) ≡ length es = length_set es i (fresh 0 0) in
+    let c : length (set es i (fresh 0 0)) ≡ length es = length-set es i (fresh 0 0) in
     omega arith
 
 has_vacant : (e : Entry) (s : ℕ) → used e.stage ≡ 0 → has e s ≡ 0
@@ -241,8 +241,8 @@ past_fresh es i n a s l f le z =
 table_status_fresh : (es : List Entry) (i n a : ℕ) → i < length es → used (get_or es i free_entry).stage ≡ 0 → holders es n ≡ 0 → table_status (set es i (fresh n a)) n ≡ open_by a
 table_status_fresh es i n a l f z =
     let e = fresh n a in
-    let g : get_or (set es i e) i free_entry ≡ e = get_or_set_same es i e free_entry l in
-    let l2 : i < length (set es i e) = rw length_set l in
+    let g : get_or (set es i e) i free_entry ≡ e = get_or-set_same es i e free_entry l in
+    let l2 : i < length (set es i e) = rw length-set l in
     let h2 : has (get_or (set es i e) i free_entry) n ≡ 1 = ap (λ (x : Entry). has x n) g ∙ has_fresh n a in
     let v : holders es n ≤ 1 = omega arith in
     let u2 : holders (set es i e) n ≤ 1 = once_fresh es i n a n l f z v in

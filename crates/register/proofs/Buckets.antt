@@ -1,5 +1,5 @@
 -- The bucket that the tree finds is the bucket of the row.
-use Rattle.std.proofs.Common.{◌≡◌, ℕ, suc, ◌+◌, ◌-◌, ◌/◌, ◌<◌, ◌≤◌, Bool, true, false, cond, ◌&&◌, eqb, ltb, leb, List, [], ◌∷◌, length, take, drop, Some, None, Ok, Err, Option, Result, sym, refl, ap, ◌∙◌, subst, arith, length_drop, length_take}
+use Rattle.std.proofs.Common.{◌≡◌, ℕ, suc, ◌+◌, ◌-◌, ◌/◌, ◌<◌, ◌≤◌, Bool, true, false, cond, ◌&&◌, eqb, ltb, leb, List, [], ◌∷◌, length, take, drop, Some, None, Ok, Err, Option, Result, sym, refl, ap, ◌∙◌, subst, arith, length-drop, length-take}
 use Rattle.std.proofs.lemmas.Bool.Decides.{nat_tests}
 use Rattle.kinds.specs.Rules.{Model}
 use Rattle.buckets.specs.declared.Ends.{Ends}
@@ -83,7 +83,7 @@ module _ {P : Type 0} where
   -- A run of ranks has members.
   pub members_some : (e : Ends) (es : List (Entry P)) → e.first ≤ e.last → e.last < length es
       → (x : Entry P) × (xs : List (Entry P)) × (members e es ≡ x ∷ xs)
-  members_some e es some within = some_of (members e es) (simp (length_take, length_drop) (omega arith))
+  members_some e es some within = some_of (members e es) (simp (length-take, length-drop) (omega arith))
 
 module _ {P R : Type 0} (m : Model P R) where
   pub bucket_told : AllEnds → (es : List (Entry P)) (n k r : ℕ) (e : Ends) (region : R) → r ≡ rank_of n es

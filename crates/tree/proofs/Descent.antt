@@ -27,21 +27,21 @@ module _ {P R : Type 0} (m : Model P R) where
   count_root {ns} (node l s p v r) y pos =
       let x = at_some ns s (stored l p v r) y.held.0 in omega (arith, y.root_is)
 
-  module _ {ns : List (Node P R)} {root : ℕ} {t : Tree P R} {place : P} {to_left to_right : ℕ} (y : TreeAt ns root t)
-      (o : Opened root place to_left to_right t) where
-    pub left_in : to_left < length ns
-    left_in = let z = tree_left m y o in root_in ns to_left o.d z.root_is y.some z.held
+  module _ {ns : List (Node P R)} {root : ℕ} {t : Tree P R} {place : P} {to-left to-right : ℕ} (y : TreeAt ns root t)
+      (o : Opened root place to-left to-right t) where
+    pub left_in : to-left < length ns
+    left_in = let z = tree_left m y o in root_in ns to-left o.d z.root_is y.some z.held
 
-    pub right_in : to_right < length ns
-    right_in = let z = tree_right m y o in root_in ns to_right o.e z.root_is y.some z.held
+    pub right_in : to-right < length ns
+    right_in = let z = tree_right m y o in root_in ns to-right o.e z.root_is y.some z.held
 
-    pub left_count : (x : ℕ) → x ≡ count_of (at ns to_left) → x ≡ size o.d
-    left_count x is = let z = tree_left m y o in count_is ns to_left x o.d z.root_is is z.held
+    pub left_count : (x : ℕ) → x ≡ count_of (at ns to-left) → x ≡ size o.d
+    left_count x is = let z = tree_left m y o in count_is ns to-left x o.d z.root_is is z.held
 
-    pub right_count : (x : ℕ) → x ≡ count_of (at ns to_right) → x ≡ size o.e
-    right_count x is = let z = tree_right m y o in count_is ns to_right x o.e z.root_is is z.held
+    pub right_count : (x : ℕ) → x ≡ count_of (at ns to-right) → x ≡ size o.e
+    right_count x is = let z = tree_right m y o in count_is ns to-right x o.e z.root_is is z.held
 
-    left_length : (x : ℕ) → x ≡ count_of (at ns to_left) → x ≡ length (row_of o.d)
+    left_length : (x : ℕ) → x ≡ count_of (at ns to-left) → x ≡ length (row_of o.d)
     left_length x is = left_count x is ∙ sym (length_row o.d)
 
     pub whole_count : count_of (at ns root) ≡ 1 + size o.d + size o.e
@@ -53,12 +53,12 @@ module _ {P R : Type 0} (m : Model P R) where
     pub joined_right : Joined m t → Joined m o.e
     joined_right h = (subst (λ u. Joined m u) o.is h).1
 
-    left_over : Laws m → Joined m t → (d x : R) → x ≡ joined_over m d (at ns to_left) → x ≡ joined_with m d (row_of o.d)
+    left_over : Laws m → Joined m t → (d x : R) → x ≡ joined_over m d (at ns to-left) → x ≡ joined_with m d (row_of o.d)
     left_over laws h d x is =
         let z = tree_left m y o in is ∙ ap (λ i. joined_over m d (at ns i)) z.root_is ∙ holds_onto m ns d o.d z.held
         ∙ onto_span m laws d o.d (joined_left h) ∙ span_over m laws d o.d
 
-    right_over : Laws m → Joined m t → (d x : R) → x ≡ joined_over m d (at ns to_right) → x ≡ joined_with m d (row_of o.e)
+    right_over : Laws m → Joined m t → (d x : R) → x ≡ joined_over m d (at ns to-right) → x ≡ joined_with m d (row_of o.e)
     right_over laws h d x is =
         let z = tree_right m y o in is ∙ ap (λ i. joined_over m d (at ns i)) z.root_is
         ∙ holds_onto m ns d o.e z.held ∙ onto_span m laws d o.e (joined_right h) ∙ span_over m laws d o.e
@@ -69,14 +69,14 @@ module _ {P R : Type 0} (m : Model P R) where
     row_is : row_of t ≡ row_of o.d ++ (entry root place ∷ row_of o.e)
     row_is = ap row_of o.is
 
-    pub suffix_goes_right : Laws m → (x i : ℕ) (d r : R) → x ≡ count_of (at ns to_left) → x < i
+    pub suffix_goes_right : Laws m → (x i : ℕ) (d r : R) → x ≡ count_of (at ns to-left) → x < i
         → r ≡ joined_with m d (drop (i - x - 1) (row_of o.e)) → r ≡ joined_with m d (drop i (row_of t))
     suffix_goes_right laws x i d r is lt got =
         got ∙ sym (suffix_right m laws (row_of o.d) (entry root place) (row_of o.e) x (left_length x is) d i lt)
         ∙ ap (λ z. joined_with m d (drop i z)) (sym row_is)
 
-    pub suffix_goes_left : Laws m → Joined m t → (x i : ℕ) (d own right r : R) → x ≡ count_of (at ns to_left) → i ≤ x
-        → own ≡ m.joined d (m.single place) → right ≡ joined_over m own (at ns to_right)
+    pub suffix_goes_left : Laws m → Joined m t → (x i : ℕ) (d own right r : R) → x ≡ count_of (at ns to-left) → i ≤ x
+        → own ≡ m.joined d (m.single place) → right ≡ joined_over m own (at ns to-right)
         → r ≡ joined_with m right (drop i (row_of o.d)) → r ≡ joined_with m d (drop i (row_of t))
     suffix_goes_left laws h x i d own right r is le owns rights got =
         got ∙ ap (λ z. joined_with m z (drop i (row_of o.d)))
@@ -84,14 +84,14 @@ module _ {P R : Type 0} (m : Model P R) where
         ∙ sym (suffix_left m laws (row_of o.d) (entry root place) (row_of o.e) x (left_length x is) d i le)
         ∙ ap (λ z. joined_with m d (drop i z)) (sym row_is)
 
-    pub prefix_goes_left : Laws m → (x i : ℕ) (d r : R) → x ≡ count_of (at ns to_left) → i ≤ x
+    pub prefix_goes_left : Laws m → (x i : ℕ) (d r : R) → x ≡ count_of (at ns to-left) → i ≤ x
         → r ≡ joined_with m d (take i (row_of o.d)) → r ≡ joined_with m d (take i (row_of t))
     prefix_goes_left laws x i d r is le got =
         got ∙ sym (prefix_left m laws (row_of o.d) (entry root place) (row_of o.e) x (left_length x is) d i le)
         ∙ ap (λ z. joined_with m d (take i z)) (sym row_is)
 
-    pub prefix_goes_right : Laws m → Joined m t → (x i : ℕ) (d own left r : R) → x ≡ count_of (at ns to_left) → x < i
-        → own ≡ m.joined d (m.single place) → left ≡ joined_over m own (at ns to_left)
+    pub prefix_goes_right : Laws m → Joined m t → (x i : ℕ) (d own left r : R) → x ≡ count_of (at ns to-left) → x < i
+        → own ≡ m.joined d (m.single place) → left ≡ joined_over m own (at ns to-left)
         → r ≡ joined_with m left (take (i - x - 1) (row_of o.e)) → r ≡ joined_with m d (take i (row_of t))
     prefix_goes_right laws h x i d own left r is lt owns lefts got =
         got ∙ ap (λ z. joined_with m z (take (i - x - 1) (row_of o.e)))
@@ -99,20 +99,20 @@ module _ {P R : Type 0} (m : Model P R) where
         ∙ sym (prefix_right m laws (row_of o.d) (entry root place) (row_of o.e) x (left_length x is) d i lt)
         ∙ ap (λ z. joined_with m d (take i z)) (sym row_is)
 
-    pub between_left : Laws m → (x i j : ℕ) → x ≡ count_of (at ns to_left) → j ≤ x
+    pub between_left : Laws m → (x i j : ℕ) → x ≡ count_of (at ns to-left) → j ≤ x
         → drop i (take j (row_of o.d)) ≡ drop i (take j (row_of t))
     between_left laws x i j is le =
         sym (part_left m laws (row_of o.d) (entry root place) (row_of o.e) x (left_length x is) i j le)
         ∙ ap (λ z. drop i (take j z)) (sym row_is)
 
-    pub between_right : Laws m → (x i j : ℕ) → x ≡ count_of (at ns to_left) → x < i → i < j
+    pub between_right : Laws m → (x i j : ℕ) → x ≡ count_of (at ns to-left) → x < i → i < j
         → drop (i - x - 1) (take (j - x - 1) (row_of o.e)) ≡ drop i (take j (row_of t))
     between_right laws x i j is lt le =
         sym (part_right m laws (row_of o.d) (entry root place) (row_of o.e) x (left_length x is) i j lt le)
         ∙ ap (λ z. drop i (take j z)) (sym row_is)
 
     pub between_mid : Laws m → (x i j : ℕ) (own lo r : R) (e : Entry P) (es : List (Entry P))
-        → x ≡ count_of (at ns to_left) → i ≤ x → x < j → own ≡ m.single place
+        → x ≡ count_of (at ns to-left) → i ≤ x → x < j → own ≡ m.single place
         → lo ≡ joined_with m own (drop i (row_of o.d)) → r ≡ joined_with m lo (take (j - x - 1) (row_of o.e))
         → drop i (take j (row_of t)) ≡ e ∷ es → r ≡ joined_with m (m.single e.place) es
     between_mid laws x i j own lo r e es is le lt owns los got parts =
@@ -126,7 +126,7 @@ module _ {P R : Type 0} (m : Model P R) where
       ways : Bool → Bool → ℕ
       ways b c = cond b (size o.d) (cond c (ranked m p s o.d) (size o.d + 1 + ranked m p s o.e))
 
-      pub rank_here : (x : ℕ) → x ≡ count_of (at ns to_left) → s ≡ root → x ≡ ranked m p s t
+      pub rank_here : (x : ℕ) → x ≡ count_of (at ns to-left) → s ≡ root → x ≡ ranked m p s t
       unfolding ways
       rank_here x is eq =
           let test : eqb s root ≡ true = grind (arith, nat_tests) in
@@ -141,7 +141,7 @@ module _ {P R : Type 0} (m : Model P R) where
           got ∙ sym (ap (ranked m p s) o.is ∙ ap (λ b. ways b (ahead m (entry s p) (entry root place))) test
           ∙ ap (λ c. ways false c) is)
 
-      pub rank_right : (x z : ℕ) → x ≡ count_of (at ns to_left) → (s ≡ root → ⊥)
+      pub rank_right : (x z : ℕ) → x ≡ count_of (at ns to-left) → (s ≡ root → ⊥)
           → ahead m (entry s p) (entry root place) ≡ false → z ≡ ranked m p s o.e → x + 1 + z ≡ ranked m p s t
       unfolding ways
       rank_right x z is ne no_test got =

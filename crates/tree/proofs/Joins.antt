@@ -1,6 +1,6 @@
 -- Joins over parts of a row.
 use Rattle.std.proofs.Common.{◌≡◌, ℕ, zero, suc, ◌+◌, ◌-◌, ◌<◌, ◌≤◌, List, [], ◌∷◌, ◌++◌, length, take, drop, sym, refl, ap, ◌∙◌, ap₂, arith}
-use Rattle.std.proofs.lemmas.List.{take_append_le, drop_append_le}
+use Rattle.std.proofs.lemmas.List.{take-append-le, drop-append-le}
 use Rattle.kinds.specs.Rules.{Model, Laws}
 use Rattle.tree.specs.Tree.{Tree, leaf, node, row_of, span, onto, Joined}
 use Rattle.buckets.specs.Rows.{Entry, entry}
@@ -78,12 +78,12 @@ module _ {P R : Type 0} (m : Model P R) (laws : Laws m) where
         (joined_with m (m.joined d (m.single f.place)) ys) (drop i xs)
     suffix_left d i le =
         let h : i ≤ length xs = omega arith in
-        ap (joined_with m d) (drop_append_le i xs (f ∷ ys) h) ∙ over_mid d (drop i xs) f ys
+        ap (joined_with m d) (drop-append-le i xs (f ∷ ys) h) ∙ over_mid d (drop i xs) f ys
         ∙ over_over (m.joined d (m.single f.place)) (drop i xs) ys
 
     -- The part below a rank.
     pub prefix_left : (d : R) (i : ℕ) → i ≤ n → joined_with m d (take i (xs ++ (f ∷ ys))) ≡ joined_with m d (take i xs)
-    prefix_left d i le = let h : i ≤ length xs = omega arith in ap (joined_with m d) (take_append_le i xs (f ∷ ys) h)
+    prefix_left d i le = let h : i ≤ length xs = omega arith in ap (joined_with m d) (take-append-le i xs (f ∷ ys) h)
 
     pub prefix_right : (d : R) (i : ℕ) → n < i
         → joined_with m d (take i (xs ++ (f ∷ ys))) ≡ joined_with m
@@ -95,7 +95,7 @@ module _ {P R : Type 0} (m : Model P R) (laws : Laws m) where
 
     -- The part between two ranks.
     pub part_left : (i j : ℕ) → j ≤ n → drop i (take j (xs ++ (f ∷ ys))) ≡ drop i (take j xs)
-    part_left i j le = let h : j ≤ length xs = omega arith in ap (drop i) (take_append_le j xs (f ∷ ys) h)
+    part_left i j le = let h : j ≤ length xs = omega arith in ap (drop i) (take-append-le j xs (f ∷ ys) h)
 
     pub part_right : (i j : ℕ) → n < i → i < j
         → drop i (take j (xs ++ (f ∷ ys))) ≡ drop (i - n - 1) (take (j - n - 1) ys)
@@ -110,7 +110,7 @@ module _ {P R : Type 0} (m : Model P R) (laws : Laws m) where
         let e : j ≡ length xs + 1 + (j - n - 1) = omega arith in
         let h : i ≤ length xs = omega arith in
         ap (drop i) (ap (λ z. take z (xs ++ (f ∷ ys))) e ∙ take_over xs f ys (j - n - 1))
-        ∙ drop_append_le i xs (f ∷ take (j - n - 1) ys) h
+        ∙ drop-append-le i xs (f ∷ take (j - n - 1) ys) h
 
   -- The join of a row that is not empty, from any of its entries.
   pub from_any : (xs : List (Entry P)) (f : Entry P) (ys : List (Entry P)) (e : Entry P) (es : List (Entry P))

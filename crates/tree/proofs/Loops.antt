@@ -70,15 +70,15 @@ module _ {P R : Type 0} (m : Model P R) (p : P) (s : ℕ) {ns : List (Node P R)}
   pub rank_end : i ≡ 0 → before ≡ ranked m p s t
   rank_end none = let a = ap (ranked m p s) (zero_leaf m w.rest w.held none) in omega (arith, w.same)
 
-  module _ {place : P} {to_left to_right : ℕ} (o : Opened i place to_left to_right w.rest) {x : ℕ}
-      (is : x ≡ count_of (at ns to_left)) where
+  module _ {place : P} {to-left to-right : ℕ} (o : Opened i place to-left to-right w.rest) {x : ℕ}
+      (is : x ≡ count_of (at ns to-left)) where
     pub rank_few : size t ≤ 4095 → before + x + 1 ≤ 4095
     rank_few few = let a = left_count m w.held o x is in let b = ap size o.is in omega (arith, w.few)
 
     pub rank_found : s ≡ i → before + x ≡ ranked m p s t
     rank_found eq = sym (w.same ∙ ap (λ n. before + n) (sym (rank_here m w.held o p s x is eq)))
 
-    pub rank_step_left : (s ≡ i → ⊥) → ahead m (entry s p) (entry i place) ≡ true → RankWay m p s ns to_left before t
+    pub rank_step_left : (s ≡ i → ⊥) → ahead m (entry s p) (entry i place) ≡ true → RankWay m p s ns to-left before t
     rank_step_left ne test =
         let b = ap size o.is in
         record {
@@ -89,7 +89,7 @@ module _ {P R : Type 0} (m : Model P R) (p : P) (s : ℕ) {ns : List (Node P R)}
         }
 
     pub rank_step_right : (s ≡ i → ⊥) → ahead m (entry s p) (entry i place) ≡ false
-        → RankWay m p s ns to_right (before + x + 1) t
+        → RankWay m p s ns to-right (before + x + 1) t
     rank_step_right ne test =
         let a = left_count m w.held o x is in
         let b = ap size o.is in
@@ -123,9 +123,9 @@ module _ {P R : Type 0} (m : Model P R) (laws : Laws m) {ns : List (Node P R)} {
         sym (w.same h ∙ ap (λ u. joined_with m join (drop to (row_of u))) (zero_leaf m w.rest w.held none)
         ∙ ap (joined_with m join) (drop_nil to))
 
-    module _ {place : P} {to_left to_right : ℕ} (o : Opened i place to_left to_right w.rest) {x : ℕ}
-        (is : x ≡ count_of (at ns to_left)) where
-      pub suffix_step_right : x < to → SpanWay m drop ns to_right from (to - x - 1) base join t
+    module _ {place : P} {to-left to-right : ℕ} (o : Opened i place to-left to-right w.rest) {x : ℕ}
+        (is : x ≡ count_of (at ns to-left)) where
+      pub suffix_step_right : x < to → SpanWay m drop ns to-right from (to - x - 1) base join t
       suffix_step_right lt =
           record {
             rest = o.e;
@@ -135,7 +135,7 @@ module _ {P R : Type 0} (m : Model P R) (laws : Laws m) {ns : List (Node P R)} {
           }
 
       pub suffix_step_left : to ≤ x → {own more : R} → own ≡ m.joined join (m.single place)
-          → more ≡ joined_over m own (at ns to_right) → SpanWay m drop ns to_left from to base more t
+          → more ≡ joined_over m own (at ns to-right) → SpanWay m drop ns to-left from to base more t
       suffix_step_left le {own} {more} owns mores =
           record {
             rest = o.d;
@@ -151,9 +151,9 @@ module _ {P R : Type 0} (m : Model P R) (laws : Laws m) {ns : List (Node P R)} {
         sym (w.same h ∙ ap (λ u. joined_with m join (take to (row_of u))) (zero_leaf m w.rest w.held none)
         ∙ ap (joined_with m join) (take_nil to))
 
-    module _ {place : P} {to_left to_right : ℕ} (o : Opened i place to_left to_right w.rest) {x : ℕ}
-        (is : x ≡ count_of (at ns to_left)) where
-      pub prefix_step_left : to ≤ x → SpanWay m take ns to_left from to base join t
+    module _ {place : P} {to-left to-right : ℕ} (o : Opened i place to-left to-right w.rest) {x : ℕ}
+        (is : x ≡ count_of (at ns to-left)) where
+      pub prefix_step_left : to ≤ x → SpanWay m take ns to-left from to base join t
       prefix_step_left le =
           record {
             rest = o.d;
@@ -163,7 +163,7 @@ module _ {P R : Type 0} (m : Model P R) (laws : Laws m) {ns : List (Node P R)} {
           }
 
       pub prefix_step_right : x < to → {own more : R} → own ≡ m.joined join (m.single place)
-          → more ≡ joined_over m own (at ns to_left) → SpanWay m take ns to_right from (to - x - 1) base more t
+          → more ≡ joined_over m own (at ns to-left) → SpanWay m take ns to-right from (to - x - 1) base more t
       prefix_step_right lt {own} {more} owns mores =
           record {
             rest = o.e;
@@ -192,10 +192,10 @@ module _ {P R : Type 0} (m : Model P R) (laws : Laws m) {ns : List (Node P R)} {
   pub run_root : {t : Tree P R} → TreeAt ns root t → 0 < i
   run_root {t} y = let v = w.way t y in count_root m v.rest v.held (omega (arith, w.some, w.within))
 
-  module _ {place : P} {to_left to_right : ℕ}
-      (opens : (t : Tree P R) (y : TreeAt ns root t) → Opened i place to_left to_right (w.way t y).rest) {x : ℕ}
-      (is : x ≡ count_of (at ns to_left)) where
-    pub run_step_left : keep ≤ x → RunWays m ns root to_left first end skip keep
+  module _ {place : P} {to-left to-right : ℕ}
+      (opens : (t : Tree P R) (y : TreeAt ns root t) → Opened i place to-left to-right (w.way t y).rest) {x : ℕ}
+      (is : x ≡ count_of (at ns to-left)) where
+    pub run_step_left : keep ≤ x → RunWays m ns root to-left first end skip keep
     run_step_left le =
         record {
           way = λ t y.
@@ -212,7 +212,7 @@ module _ {P R : Type 0} (m : Model P R) (laws : Laws m) {ns : List (Node P R)} {
         }
 
     pub run_step_right : {t₀ : Tree P R} → TreeAt ns root t₀ → x < skip
-        → RunWays m ns root to_right first end (skip - x - 1) (keep - x - 1)
+        → RunWays m ns root to-right first end (skip - x - 1) (keep - x - 1)
     run_step_right {t₀} y₀ lt =
         let v₀ = w.way t₀ y₀ in
         let o₀ = opens t₀ y₀ in

@@ -17,18 +17,18 @@ use Rattle.tree.proofs.Growing.{larger}
 module _ {P R : Type 0} (m : Model P R) where
   module _ {ns : List (Node P R)} {s left right : ℕ} {l r : Tree P R} (y : EvenAt ns s left right l r) where
     -- The left tree taken apart.
-    pub open_left : {place : P} {to_left to_right : ℕ} → 0 < left → held_place (at ns left) ≡ Some place
-        → to_left ≡ left_child (at ns left) → to_right ≡ right_child (at ns left) → Opened left place to_left to_right l
+    pub open_left : {place : P} {to-left to-right : ℕ} → 0 < left → held_place (at ns left) ≡ Some place
+        → to-left ≡ left_child (at ns left) → to-right ≡ right_child (at ns left) → Opened left place to-left to-right l
     open_left pos place_is left_is right_is =
         opened m ns l pos y.two.left_is y.two.held_l place_is left_is right_is
 
-    pub open_right : {place : P} {to_left to_right : ℕ} → 0 < right → held_place (at ns right) ≡ Some place
-        → to_left ≡ left_child (at ns right) → to_right ≡ right_child (at ns right) → Opened right place to_left to_right r
+    pub open_right : {place : P} {to-left to-right : ℕ} → 0 < right → held_place (at ns right) ≡ Some place
+        → to-left ≡ left_child (at ns right) → to-right ≡ right_child (at ns right) → Opened right place to-left to-right r
     open_right pos place_is left_is right_is =
         opened m ns r pos y.two.right_is y.two.held_r place_is left_is right_is
 
-    pub three_left : {place : P} {to_left to_right : ℕ} → (0 < left) × (left < length ns)
-        → (o : Opened left place to_left to_right l) → ThreeAt ns left s to_left to_right right o.d o.e r
+    pub three_left : {place : P} {to-left to-right : ℕ} → (0 < left) × (left < length ns)
+        → (o : Opened left place to-left to-right l) → ThreeAt ns left s to-left to-right right o.d o.e r
     three_left root o =
         let z = subst (λ t. EvenAt ns s left right t r) o.is y in
         record {
@@ -49,8 +49,8 @@ module _ {P R : Type 0} (m : Model P R) where
           low_c = omega arith;
         }
 
-    pub three_right : {place : P} {to_left to_right : ℕ} → (0 < right) × (right < length ns)
-        → (o : Opened right place to_left to_right r) → ThreeAt ns s right left to_left to_right l o.d o.e
+    pub three_right : {place : P} {to-left to-right : ℕ} → (0 < right) × (right < length ns)
+        → (o : Opened right place to-left to-right r) → ThreeAt ns s right left to-left to-right l o.d o.e
     three_right root o =
         let z = subst (λ t. EvenAt ns s left right l t) o.is y in
         record {
@@ -72,37 +72,37 @@ module _ {P R : Type 0} (m : Model P R) where
         }
 
   -- Which rotation a test picks.
-  pub right_is_both : {i : ℕ} {place : P} {to_left to_right : ℕ} (l : Tree P R) (o : Opened i place to_left to_right l)
+  pub right_is_both : {i : ℕ} {place : P} {to-left to-right : ℕ} (l : Tree P R) (o : Opened i place to-left to-right l)
       (k : ℕ) (q : P) (c : Tree P R)
       → tall o.d < tall o.e → rotated_right m l k q c ≡ rotated_twice m o.d i place o.e k q c
-  right_is_both {i} {place} {to_left} {to_right} l o k q c lt =
+  right_is_both {i} {place} {to-left} {to-right} l o k q c lt =
       let test : ltb (tall o.d) (tall o.e) ≡ true = grind (arith, nat_tests) in
       ap (λ t. rotated_right m t k q c) o.is
       ∙ ap (λ b. cond b (rotated_twice m o.d i place o.e k q c)
       (linked m o.d i place (linked m o.e k q c))) test
 
-  pub right_is_once : {i : ℕ} {place : P} {to_left to_right : ℕ} (l : Tree P R) (o : Opened i place to_left to_right l)
+  pub right_is_once : {i : ℕ} {place : P} {to-left to-right : ℕ} (l : Tree P R) (o : Opened i place to-left to-right l)
       (k : ℕ) (q : P) (c : Tree P R)
       → tall o.e ≤ tall o.d → rotated_right m l k q c ≡ linked m o.d i place (linked m o.e k q c)
-  right_is_once {i} {place} {to_left} {to_right} l o k q c ge =
+  right_is_once {i} {place} {to-left} {to-right} l o k q c ge =
       let test : ltb (tall o.d) (tall o.e) ≡ false = grind (arith, nat_tests) in
       ap (λ t. rotated_right m t k q c) o.is
       ∙ ap (λ b. cond b (rotated_twice m o.d i place o.e k q c)
       (linked m o.d i place (linked m o.e k q c))) test
 
-  pub left_is_both : {i : ℕ} {place : P} {to_left to_right : ℕ} (r : Tree P R) (o : Opened i place to_left to_right r)
+  pub left_is_both : {i : ℕ} {place : P} {to-left to-right : ℕ} (r : Tree P R) (o : Opened i place to-left to-right r)
       (a : Tree P R) (s : ℕ) (p : P)
       → tall o.e < tall o.d → rotated_left m a s p r ≡ rotated_twice m a s p o.d i place o.e
-  left_is_both {i} {place} {to_left} {to_right} r o a s p lt =
+  left_is_both {i} {place} {to-left} {to-right} r o a s p lt =
       let test : ltb (tall o.e) (tall o.d) ≡ true = grind (arith, nat_tests) in
       ap (λ t. rotated_left m a s p t) o.is
       ∙ ap (λ b. cond b (rotated_twice m a s p o.d i place o.e)
       (linked m (linked m a s p o.d) i place o.e)) test
 
-  pub left_is_once : {i : ℕ} {place : P} {to_left to_right : ℕ} (r : Tree P R) (o : Opened i place to_left to_right r)
+  pub left_is_once : {i : ℕ} {place : P} {to-left to-right : ℕ} (r : Tree P R) (o : Opened i place to-left to-right r)
       (a : Tree P R) (s : ℕ) (p : P)
       → tall o.d ≤ tall o.e → rotated_left m a s p r ≡ linked m (linked m a s p o.d) i place o.e
-  left_is_once {i} {place} {to_left} {to_right} r o a s p ge =
+  left_is_once {i} {place} {to-left} {to-right} r o a s p ge =
       let test : ltb (tall o.e) (tall o.d) ≡ false = grind (arith, nat_tests) in
       ap (λ t. rotated_left m a s p t) o.is
       ∙ ap (λ b. cond b (rotated_twice m a s p o.d i place o.e)
@@ -139,16 +139,16 @@ module _ {P R : Type 0} (m : Model P R) (p : P) where
     pub grow_root : (root ≡ 0 → ⊥) → (0 < root) × (root < length ns)
     grow_root ne = (omega arith, rw y.root_is (holds_root ns t (omega arith) y.held))
 
-    pub grow_open : {place : P} {to_left to_right : ℕ} → (root ≡ 0 → ⊥) → held_place (at ns root) ≡ Some place
-        → to_left ≡ left_child (at ns root) → to_right ≡ right_child (at ns root) → Opened root place to_left to_right t
+    pub grow_open : {place : P} {to-left to-right : ℕ} → (root ≡ 0 → ⊥) → held_place (at ns root) ≡ Some place
+        → to-left ≡ left_child (at ns root) → to-right ≡ right_child (at ns root) → Opened root place to-left to-right t
     grow_open ne place_is left_is right_is =
         opened m ns t (omega arith) y.root_is y.held place_is left_is right_is
 
-    module _ {place : P} {to_left to_right : ℕ} (o : Opened root place to_left to_right t) where
+    module _ {place : P} {to-left to-right : ℕ} (o : Opened root place to-left to-right t) where
       grow_at : GrowAt ns s root (node o.d root place o.v o.e)
       grow_at = subst (λ v. GrowAt ns s root v) o.is y
 
-      grow_left : GrowAt ns s to_left o.d
+      grow_left : GrowAt ns s to-left o.d
       grow_left =
           let z = grow_at in
           record {
@@ -161,7 +161,7 @@ module _ {P R : Type 0} (m : Model P R) (p : P) where
             balanced = z.balanced.0;
           }
 
-      grow_right : GrowAt ns s to_right o.e
+      grow_right : GrowAt ns s to-right o.e
       grow_right =
           let z = grow_at in
           record {
@@ -175,7 +175,7 @@ module _ {P R : Type 0} (m : Model P R) (p : P) where
           }
 
       after_left : (n₁ : List (Node P R)) (left : ℕ) → length n₁ ≡ length ns → Done ns n₁ left (grown m p s o.d)
-          → EvenAt n₁ root left to_right (grown m p s o.d) o.e
+          → EvenAt n₁ root left to-right (grown m p s o.d) o.e
       after_left n₁ left long f =
           let z = grow_at in
           let w = larger m p s o.d z.balanced.0 in
@@ -183,7 +183,7 @@ module _ {P R : Type 0} (m : Model P R) (p : P) where
           (λ j. omega (arith, z.apart j, w.slots j)) (omega arith) long f
 
       after_right : (n₁ : List (Node P R)) (right : ℕ) → length n₁ ≡ length ns → Done ns n₁ right (grown m p s o.e)
-          → EvenAt n₁ root to_left right o.d (grown m p s o.e)
+          → EvenAt n₁ root to-left right o.d (grown m p s o.e)
       after_right n₁ right long f =
           let z = grow_at in
           let w = larger m p s o.e z.balanced.1 in
@@ -209,27 +209,27 @@ module _ {P R : Type 0} (m : Model P R) (p : P) where
           (done_done m f h (λ j z. omega (arith, (same_even m o.d root place (grown m p s o.e)).slots j)))
 
       -- The child that a test picks.
-      pub grow_child : (b : Bool) {child : ℕ} → child ≡ cond b to_left to_right
+      pub grow_child : (b : Bool) {child : ℕ} → child ≡ cond b to-left to-right
           → GrowAt ns s child (cond b o.d o.e)
       grow_child true is = subst (λ i. GrowAt ns s i o.d) (sym is) grow_left
       grow_child false is = subst (λ i. GrowAt ns s i o.e) (sym is) grow_right
 
-      pub fewer_child : (b : Bool) {child : ℕ} → child ≡ cond b to_left to_right → (x : ℕ) → count_of (at ns root) ≡ x
+      pub fewer_child : (b : Bool) {child : ℕ} → child ≡ cond b to-left to-right → (x : ℕ) → count_of (at ns root) ≡ x
           → count_of (at ns child) < x
       fewer_child true is x e =
           subst (λ i. count_of (at ns i) < x) (sym is) (fewer_left m ns y.held y.balanced o x e)
       fewer_child false is x e =
           subst (λ i. count_of (at ns i) < x) (sym is) (fewer_right m ns y.held y.balanced o x e)
 
-      pub after_child : (b : Bool) (n₁ : List (Node P R)) (new : ℕ) {left right : ℕ} → left ≡ cond b new to_left
-          → right ≡ cond b to_right new → length n₁ ≡ length ns → Done ns n₁ new (grown m p s (cond b o.d o.e))
+      pub after_child : (b : Bool) (n₁ : List (Node P R)) (new : ℕ) {left right : ℕ} → left ≡ cond b new to-left
+          → right ≡ cond b to-right new → length n₁ ≡ length ns → Done ns n₁ new (grown m p s (cond b o.d o.e))
           → EvenAt n₁ root left right (cond b (grown m p s o.d) o.d) (cond b o.e (grown m p s o.e))
-      after_child true n₁ new {left} {right} is_l is_r long f =
-          subst (λ i. EvenAt n₁ root i right (grown m p s o.d) o.e) (sym is_l)
-          (subst (λ i. EvenAt n₁ root new i (grown m p s o.d) o.e) (sym is_r) (after_left n₁ new long f))
-      after_child false n₁ new {left} {right} is_l is_r long f =
-          subst (λ i. EvenAt n₁ root i right o.d (grown m p s o.e)) (sym is_l)
-          (subst (λ i. EvenAt n₁ root to_left i o.d (grown m p s o.e)) (sym is_r) (after_right n₁ new long f))
+      after_child true n₁ new {left} {right} is-l is-r long f =
+          subst (λ i. EvenAt n₁ root i right (grown m p s o.d) o.e) (sym is-l)
+          (subst (λ i. EvenAt n₁ root new i (grown m p s o.d) o.e) (sym is-r) (after_left n₁ new long f))
+      after_child false n₁ new {left} {right} is-l is-r long f =
+          subst (λ i. EvenAt n₁ root i right o.d (grown m p s o.e)) (sym is-l)
+          (subst (λ i. EvenAt n₁ root to-left i o.d (grown m p s o.e)) (sym is-r) (after_right n₁ new long f))
 
       pub end_child : (b : Bool) → ahead m (entry s p) (entry root place) ≡ b → {n₁ n₂ : List (Node P R)} {new res : ℕ}
           → Done ns n₁ new (grown m p s (cond b o.d o.e))

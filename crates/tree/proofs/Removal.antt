@@ -16,8 +16,8 @@ use Rattle.tree.proofs.Rebalancing.{done_at}
 use Rattle.tree.proofs.Shrinking.{Smaller, smaller, headed}
 
 module _ {P R : Type 0} (m : Model P R) where
-  held_open : {ns : List (Node P R)} {root to_left : ℕ} (t : Tree P R) → TreeAt ns root t → 0 < root
-      → to_left ≡ left_child (at ns root) → (place : P) × Opened root place to_left (right_child (at ns root)) t
+  held_open : {ns : List (Node P R)} {root to-left : ℕ} (t : Tree P R) → TreeAt ns root t → 0 < root
+      → to-left ≡ left_child (at ns root) → (place : P) × Opened root place to-left (right_child (at ns root)) t
   held_open leaf y pos left_is = absurd (omega (arith, y.root_is))
   held_open {ns} (node l s p v r) y pos left_is = (
     p,
@@ -29,20 +29,20 @@ module _ {P R : Type 0} (m : Model P R) where
     pub tree_root : 0 < root → (0 < root) × (root < length ns)
     tree_root pos = (pos, rw y.root_is (holds_root ns t y.some y.held))
 
-    pub tree_open : {place : P} {to_left to_right : ℕ} → 0 < root → held_place (at ns root) ≡ Some place
-        → to_left ≡ left_child (at ns root) → to_right ≡ right_child (at ns root) → Opened root place to_left to_right t
+    pub tree_open : {place : P} {to-left to-right : ℕ} → 0 < root → held_place (at ns root) ≡ Some place
+        → to-left ≡ left_child (at ns root) → to-right ≡ right_child (at ns root) → Opened root place to-left to-right t
     tree_open pos place_is left_is right_is = opened m ns t pos y.root_is y.held place_is left_is right_is
 
     -- The tree at a root whose left child alone was read.
-    pub tree_open_left : {to_left : ℕ} → 0 < root → to_left ≡ left_child (at ns root)
-        → (place : P) × Opened root place to_left (right_child (at ns root)) t
+    pub tree_open_left : {to-left : ℕ} → 0 < root → to-left ≡ left_child (at ns root)
+        → (place : P) × Opened root place to-left (right_child (at ns root)) t
     tree_open_left pos left_is = held_open t y pos left_is
 
-    module _ {place : P} {to_left to_right : ℕ} (o : Opened root place to_left to_right t) where
+    module _ {place : P} {to-left to-right : ℕ} (o : Opened root place to-left to-right t) where
       pub tree_at : TreeAt ns root (node o.d root place o.v o.e)
       tree_at = subst (λ v. TreeAt ns root v) o.is y
 
-      pub tree_left : TreeAt ns to_left o.d
+      pub tree_left : TreeAt ns to-left o.d
       tree_left =
           let z = tree_at in
           record {
@@ -54,7 +54,7 @@ module _ {P R : Type 0} (m : Model P R) where
             some = y.some;
           }
 
-      pub tree_right : TreeAt ns to_right o.e
+      pub tree_right : TreeAt ns to-right o.e
       tree_right =
           let z = tree_at in
           record {
@@ -66,46 +66,46 @@ module _ {P R : Type 0} (m : Model P R) where
             some = y.some;
           }
 
-      pub less_left : (x : ℕ) → count_of (at ns root) ≡ x → count_of (at ns to_left) < x
+      pub less_left : (x : ℕ) → count_of (at ns root) ≡ x → count_of (at ns to-left) < x
       less_left = fewer_left m ns y.held y.balanced o
 
-      pub less_right : (x : ℕ) → count_of (at ns root) ≡ x → count_of (at ns to_right) < x
+      pub less_right : (x : ℕ) → count_of (at ns root) ≡ x → count_of (at ns to-right) < x
       less_right = fewer_right m ns y.held y.balanced o
 
       -- After the left tree became u.
       pub left_became : (u : Tree P R) (n₁ : List (Node P R)) (left : ℕ) → Smaller o.d u → length n₁ ≡ length ns
-          → Done ns n₁ left u → EvenAt n₁ root left to_right u o.e
+          → Done ns n₁ left u → EvenAt n₁ root left to-right u o.e
       left_became u n₁ left w long f =
           let z = tree_at in
           left_replaced m ns y.held y.balanced o u n₁ left w.balanced
           (λ j. omega (arith, z.apart j, w.slots j)) (omega (arith, w.sizes)) long f
 
       right_became : (u : Tree P R) (n₁ : List (Node P R)) (right : ℕ) → Smaller o.e u → length n₁ ≡ length ns
-          → Done ns n₁ right u → EvenAt n₁ root to_left right o.d u
+          → Done ns n₁ right u → EvenAt n₁ root to-left right o.d u
       right_became u n₁ right w long f =
           let z = tree_at in
           right_replaced m ns y.held y.balanced o u n₁ right w.balanced
           (λ j. omega (arith, z.apart j, w.slots j)) (omega (arith, w.sizes)) long f
 
       -- The child that a test picks.
-      pub tree_child : (b : Bool) {child : ℕ} → child ≡ cond b to_left to_right → TreeAt ns child (cond b o.d o.e)
+      pub tree_child : (b : Bool) {child : ℕ} → child ≡ cond b to-left to-right → TreeAt ns child (cond b o.d o.e)
       tree_child true is = subst (λ i. TreeAt ns i o.d) (sym is) tree_left
       tree_child false is = subst (λ i. TreeAt ns i o.e) (sym is) tree_right
 
-      pub less_child : (b : Bool) {child : ℕ} → child ≡ cond b to_left to_right → (x : ℕ) → count_of (at ns root) ≡ x
+      pub less_child : (b : Bool) {child : ℕ} → child ≡ cond b to-left to-right → (x : ℕ) → count_of (at ns root) ≡ x
           → count_of (at ns child) < x
       less_child true is x e = subst (λ i. count_of (at ns i) < x) (sym is) (less_left x e)
       less_child false is x e = subst (λ i. count_of (at ns i) < x) (sym is) (less_right x e)
 
       pub child_became : (b : Bool) (u : Tree P R) (n₁ : List (Node P R)) (new : ℕ) {left right : ℕ}
-          → left ≡ cond b new to_left → right ≡ cond b to_right new → Smaller (cond b o.d o.e) u
+          → left ≡ cond b new to-left → right ≡ cond b to-right new → Smaller (cond b o.d o.e) u
           → length n₁ ≡ length ns → Done ns n₁ new u → EvenAt n₁ root left right (cond b u o.d) (cond b o.e u)
-      child_became true u n₁ new {left} {right} is_l is_r w long f =
-          subst (λ i. EvenAt n₁ root i right u o.e) (sym is_l)
-          (subst (λ i. EvenAt n₁ root new i u o.e) (sym is_r) (left_became u n₁ new w long f))
-      child_became false u n₁ new {left} {right} is_l is_r w long f =
-          subst (λ i. EvenAt n₁ root i right o.d u) (sym is_l)
-          (subst (λ i. EvenAt n₁ root to_left i o.d u) (sym is_r) (right_became u n₁ new w long f))
+      child_became true u n₁ new {left} {right} is-l is-r w long f =
+          subst (λ i. EvenAt n₁ root i right u o.e) (sym is-l)
+          (subst (λ i. EvenAt n₁ root new i u o.e) (sym is-r) (left_became u n₁ new w long f))
+      child_became false u n₁ new {left} {right} is-l is-r w long f =
+          subst (λ i. EvenAt n₁ root i right o.d u) (sym is-l)
+          (subst (λ i. EvenAt n₁ root to-left i o.d u) (sym is-r) (right_became u n₁ new w long f))
 
   -- A change of one child, and then of the node.
   pub then_left : {ns n₁ n₂ : List (Node P R)} {left res : ℕ} (u r : Tree P R) (k : ℕ) (q : P) → Done ns n₁ left u
@@ -186,15 +186,15 @@ module _ {P R : Type 0} (m : Model P R) where
       ∙ ap (λ o. evened m l first o (pull m a k q b)) (sym same))
       (then_right l (pull m a k q b) first place f h)
 
-  pub first_is : {ns : List (Node P R)} {root : ℕ} {t : Tree P R} {place : P} {to_left to_right : ℕ} → TreeAt ns root t
-      → (o : Opened root place to_left to_right t) → (to_left ≡ 0 → ⊥) → (x : ℕ) → x ≡ first_slot o.d
+  pub first_is : {ns : List (Node P R)} {root : ℕ} {t : Tree P R} {place : P} {to-left to-right : ℕ} → TreeAt ns root t
+      → (o : Opened root place to-left to-right t) → (to-left ≡ 0 → ⊥) → (x : ℕ) → x ≡ first_slot o.d
       → x ≡ first_slot t
   first_is {root = root} {place = place} y o ne x is =
       let w = first_left o.d root place o.e (λ e. ne (o.left_is ∙ e)) in
       is ∙ sym w.0 ∙ ap first_slot (sym o.is)
 
-  pub pulled_is : {ns : List (Node P R)} {root : ℕ} {t : Tree P R} {place : P} {to_left to_right : ℕ} → TreeAt ns root t
-      → (o : Opened root place to_left to_right t) → (to_left ≡ 0 → ⊥)
+  pub pulled_is : {ns : List (Node P R)} {root : ℕ} {t : Tree P R} {place : P} {to-left to-right : ℕ} → TreeAt ns root t
+      → (o : Opened root place to-left to-right t) → (to-left ≡ 0 → ⊥)
       → pulled m t ≡ evened m (pulled m o.d) root place o.e
   pulled_is {root = root} {place = place} y o ne =
       let w = first_left o.d root place o.e (λ e. ne (o.left_is ∙ e)) in
@@ -205,8 +205,8 @@ module _ {P R : Type 0} (m : Model P R) where
       record { balanced = tt; low = omega arith; high = omega arith; slots = λ j. omega arith; sizes = omega arith }
   smaller_pulled (node a k q v b) h = (headed m a k q v b h).smaller
 
-  pub tree_pair : {ns : List (Node P R)} {root : ℕ} {t : Tree P R} {place : P} {to_left to_right : ℕ} → TreeAt ns root t
-      → (o : Opened root place to_left to_right t) → PairAt ns to_left to_right o.d o.e
+  pub tree_pair : {ns : List (Node P R)} {root : ℕ} {t : Tree P R} {place : P} {to-left to-right : ℕ} → TreeAt ns root t
+      → (o : Opened root place to-left to-right t) → PairAt ns to-left to-right o.d o.e
   tree_pair y o =
       let z = tree_at y o in
       record {
@@ -220,7 +220,7 @@ module _ {P R : Type 0} (m : Model P R) where
       }
 
 module _ {P R : Type 0} (m : Model P R) (p : P) (s : ℕ) where
-  module _ {root : ℕ} {place : P} {to_left to_right : ℕ} (t : Tree P R) (o : Opened root place to_left to_right t) where
+  module _ {root : ℕ} {place : P} {to-left to-right : ℕ} (t : Tree P R) (o : Opened root place to-left to-right t) where
     abbrev ways : Bool → Bool → Tree P R
     ways b c =
         cond b (fused m o.d o.e)

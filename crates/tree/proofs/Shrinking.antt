@@ -1,6 +1,6 @@
 -- The tree with one entry less: balanced, and not much lower.
 use Rattle.std.proofs.Common.{◌≡◌, ℕ, ◌+◌, ◌≤◌, Bool, true, false, cond, eqb, ◌∷◌, ◌++◌, sym, refl, ap, ◌∙◌, arith}
-use Rattle.std.proofs.lemmas.List.{append_nil}
+use Rattle.std.proofs.lemmas.List.{append-nil}
 use native.Mathlib.Decide.{dec_le}
 use Rattle.kinds.specs.Rules.{Model}
 use Rattle.tree.specs.Tree.{Tree, leaf, node, tall, size, row_of, times, Balanced, Joined}
@@ -98,7 +98,7 @@ module _ {P R : Type 0} (m : Model P R) where
           sizes =
               omega arith;
         };
-        rows = sym (append_nil (row_of l));
+        rows = sym (append-nil (row_of l));
         slots = λ j. omega arith;
         sizes = omega arith;
       }

@@ -1,5 +1,5 @@
 -- The row without an entry, and where an entry stands.
-use Rattle.std.proofs.Common.{◌≡◌, ℕ, zero, suc, ◌+◌, ◌≤◌, Bool, true, false, cond, eqb, ◌⊎◌, List, [], ◌∷◌, ◌++◌, length, Some, sym, refl, ap, ◌∙◌, ap₂, inl, inr, arith, length_append}
+use Rattle.std.proofs.Common.{◌≡◌, ℕ, zero, suc, ◌+◌, ◌≤◌, Bool, true, false, cond, eqb, ◌⊎◌, List, [], ◌∷◌, ◌++◌, length, Some, sym, refl, ap, ◌∙◌, ap₂, inl, inr, arith, length-append}
 use Rattle.std.specs.List.{slice_get}
 use Rattle.std.proofs.lemmas.Bool.Decides.{nat_tests}
 use Rattle.kinds.specs.Rules.{Model}
@@ -34,7 +34,7 @@ module _ {P R : Type 0} where
   length_row (node l s p v r) =
       let a = length_row l in
       let b = length_row r in
-      omega (arith, length_append (row_of l) (entry s p ∷ row_of r))
+      omega (arith, length-append (row_of l) (entry s p ∷ row_of r))
 
 module _ {P : Type 0} where
   nth_left : (xs ys : List (Entry P)) (i : ℕ) (e : Entry P) → slice_get xs i ≡ Some e → slice_get (xs ++ ys) i ≡ Some e
@@ -101,10 +101,10 @@ module _ {P R : Type 0} (m : Model P R) (laws : AheadLaws m) where
             w₁.rows ∙ ap₂ ◌++◌ (sym (without_none s (row_of l) zl)) (sym (without_none s (row_of r) zr))
             ∙ sym (cut true is)
         go false is true id w z x y =
-            let has_l = side m laws it f (row_of l) (row_of r) w z has (λ e. grind (arith, nat_tests)) true id in
-            let zr : often s (row_of r) ≡ 0 = often_row s r ∙ omega (arith, u s, often_row s l, in_often has_l) in
+            let has-l = side m laws it f (row_of l) (row_of r) w z has (λ e. grind (arith, nat_tests)) true id in
+            let zr : often s (row_of r) ≡ 0 = often_row s r ∙ omega (arith, u s, often_row s l, in_often has-l) in
             (same_even m (shrunk m p s l) k q r).rows
-            ∙ ap₂ (λ i j. i ++ (f ∷ j)) (x has_l) (sym (without_none s (row_of r) zr)) ∙ sym (cut false is)
+            ∙ ap₂ (λ i j. i ++ (f ∷ j)) (x has-l) (sym (without_none s (row_of r) zr)) ∙ sym (cut false is)
         go false is false id w z x y =
             let has_r = side m laws it f (row_of l) (row_of r) w z has (λ e. grind (arith, nat_tests)) false id in
             let zl : often s (row_of l) ≡ 0 = often_row s l ∙ omega (arith, u s, often_row s r, in_often has_r) in

@@ -123,12 +123,12 @@ module _ {P R : Type 0} (m : Model P R) where
 
   -- The middle tree taken apart: s over a and d, k over e and c, and then i over both.
   module _ {ns : List (Node P R)} {s k ia i ic : ℕ} {a d e c : Tree P R} (o : P) (v : R) (id ie : ℕ)
-      (y : ThreeAt ns s k ia i ic a (node d i o v e) c) (is_d : id ≡ root_of d) (is_e : ie ≡ root_of e) where
+      (y : ThreeAt ns s k ia i ic a (node d i o v e) c) (is-d : id ≡ root_of d) (is-e : ie ≡ root_of e) where
     pub both_first : TwoAt ns s ia id a d
     both_first =
         record {
           left_is = y.a_is;
-          right_is = is_d;
+          right_is = is-d;
           held_l = y.held_a;
           held_r = y.held_b.1;
           apart = λ j. omega (arith, y.apart j);
@@ -143,7 +143,7 @@ module _ {P R : Type 0} (m : Model P R) where
         → TwoAt n₁ k ie ic e c
     both_second p n₁ long f =
         record {
-          left_is = is_e;
+          left_is = is-e;
           right_is = y.c_is;
           held_l = still f e (λ j lt. omega (arith, y.apart j)) y.held_b.2;
           held_r = still f c (λ j lt. omega (arith, y.apart j)) y.held_c;
@@ -158,14 +158,14 @@ module _ {P R : Type 0} (m : Model P R) where
     pub both_third : (p q : P) (n₁ n₂ : List (Node P R)) → length n₂ ≡ length ns → Done ns n₁ s (linked m a s p d)
         → Done n₁ n₂ k (linked m e k q c) → TwoAt n₂ i s k (linked m a s p d) (linked m e k q c)
     both_third p q n₁ n₂ long f g =
-        let in_i = at_some ns i (stored d o v e) y.held_b.0 in
+        let in-i = at_some ns i (stored d o v e) y.held_b.0 in
         record {
           left_is = refl;
           right_is = refl;
           held_l = still g (linked m a s p d) (λ j lt. omega (arith, y.apart j)) f.held;
           held_r = g.held;
           apart = λ j. omega (arith, y.apart j);
-          pos = in_i.0;
+          pos = in-i.0;
           within = omega arith;
           few = omega arith;
           low_l = omega arith;
@@ -173,22 +173,22 @@ module _ {P R : Type 0} (m : Model P R) where
         }
 
 -- A tree whose root is slot i, with what is read there.
-pub record Opened {P R : Type 0} (i : ℕ) (place : P) (to_left to_right : ℕ) (b : Tree P R) : Type 0 where
+pub record Opened {P R : Type 0} (i : ℕ) (place : P) (to-left to-right : ℕ) (b : Tree P R) : Type 0 where
   pub d : Tree P R
   pub e : Tree P R
   pub v : R
   pub is : b ≡ node d i place v e
-  pub left_is : to_left ≡ root_of d
-  pub right_is : to_right ≡ root_of e
+  pub left_is : to-left ≡ root_of d
+  pub right_is : to-right ≡ root_of e
 
 module _ {P R : Type 0} (m : Model P R) where
-  pub opened : (ns : List (Node P R)) {i : ℕ} {place : P} {to_left to_right : ℕ} (b : Tree P R) → 0 < i → i ≡ root_of b
-      → Holds ns b → held_place (at ns i) ≡ Some place → to_left ≡ left_child (at ns i) → to_right ≡ right_child (at ns i)
-      → Opened i place to_left to_right b
-  opened ns leaf pos is h read_place read_left read_right = absurd (omega arith)
-  opened ns {i} {place} (node d s o v e) pos is h read_place read_left read_right =
+  pub opened : (ns : List (Node P R)) {i : ℕ} {place : P} {to-left to-right : ℕ} (b : Tree P R) → 0 < i → i ≡ root_of b
+      → Holds ns b → held_place (at ns i) ≡ Some place → to-left ≡ left_child (at ns i) → to-right ≡ right_child (at ns i)
+      → Opened i place to-left to-right b
+  opened ns leaf pos is h read-place read_left read_right = absurd (omega arith)
+  opened ns {i} {place} (node d s o v e) pos is h read-place read_left read_right =
       let whole : at ns i ≡ Some (stored d o v e) = ap (at ns) is ∙ h.0 in
-      let found : Some place ≡ Some o = sym read_place ∙ ap held_place whole in
+      let found : Some place ≡ Some o = sym read-place ∙ ap held_place whole in
       record {
         d = d;
         e = e;
@@ -199,7 +199,7 @@ module _ {P R : Type 0} (m : Model P R) where
             ∙ ap right_child whole;
       }
 
-  pub opened_three : {ns : List (Node P R)} {s k ia ib ic : ℕ} {a b c : Tree P R} {place : P} {to_left to_right : ℕ}
-      → ThreeAt ns s k ia ib ic a b c → (o : Opened ib place to_left to_right b)
+  pub opened_three : {ns : List (Node P R)} {s k ia ib ic : ℕ} {a b c : Tree P R} {place : P} {to-left to-right : ℕ}
+      → ThreeAt ns s k ia ib ic a b c → (o : Opened ib place to-left to-right b)
       → ThreeAt ns s k ia ib ic a (node o.d ib place o.v o.e) c
   opened_three {ns} {s} {k} {ia} {ib} {ic} {a} {b} {c} y o = subst (λ t. ThreeAt ns s k ia ib ic a t c) o.is y

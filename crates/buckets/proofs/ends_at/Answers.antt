@@ -2,8 +2,8 @@ use Rattle.std.proofs.Common.{◌+◌, ◌*◌, ◌/◌, ◌≤◌, arith}
 use Rattle.buckets.proofs.EndsLaws.{start_fits}
 use Rattle.buckets.proofs.ends_at.Goals as goal
 
-pub overflow_mul_first : goal.overflow_mul_first
-overflow_mul_first c = omega (arith, start_fits c.args.present c.args.size c.requires.0 c.requires.1.0 c.args.number c.requires.1.1)
+pub overflow-mul-first : goal.overflow-mul-first
+overflow-mul-first c = omega (arith, start_fits c.args.present c.args.size c.requires.0 c.requires.1.0 c.args.number c.requires.1.1)
 
-pub overflow_add_last : goal.overflow_add_last
-overflow_add_last c = omega (arith, start_fits c.args.present c.args.size c.requires.0 c.requires.1.0 c.args.number c.requires.1.1)
+pub overflow-add-last : goal.overflow-add-last
+overflow-add-last c = omega (arith, start_fits c.args.present c.args.size c.requires.0 c.requires.1.0 c.args.number c.requires.1.1)

@@ -1,21 +1,21 @@
-use Rattle.std.proofs.Common.{◌≡◌, ℕ, ◌+◌, Bool, true, false, cond, eqb, List, [], ◌∷◌, ◌++◌, length, Ok, Err, Result, refl, ap, ◌∙◌, arith, length_append}
+use Rattle.std.proofs.Common.{◌≡◌, ℕ, ◌+◌, Bool, true, false, cond, eqb, List, [], ◌∷◌, ◌++◌, length, Ok, Err, Result, refl, ap, ◌∙◌, arith, length-append}
 use Rattle.std.proofs.lemmas.Bool.Decides.{nat_tests}
 use Rattle.lines.specs.declared.fault.LineFault.{LineFault}
 use Rattle.lines.specs.Meaning.{take_answer}
 use Rattle.line_examples.proofs.pass.Goals as goal
 
 -- After a message was sent, a take into 64 bytes is not refused.
-not_empty : (w v : List (List ℕ)) (m space : List ℕ) (e : LineFault) → v ≡ w ++ (m ∷ []) → length space ≡ 64
+not-empty : (w v : List (List ℕ)) (m space : List ℕ) (e : LineFault) → v ≡ w ++ (m ∷ []) → length space ≡ 64
     → Err e ≡ take_answer v space → ⊥
-not_empty w v m space e p l h =
-    let n : length v ≡ length w + 1 = ap length p ∙ length_append w (m ∷ []) in
+not-empty w v m space e p l h =
+    let n : length v ≡ length w + 1 = ap length p ∙ length-append w (m ∷ []) in
     let a : eqb (length space) 64 ≡ true = grind (arith, nat_tests) in
     let b : eqb (length v) 0 ≡ false = grind (arith, nat_tests) in
     let k : ◌≡◌ {A = Result (Unit {0}) LineFault} (Err e) (Ok tt) = simp (a, b) at h in
     let z : ◌≡◌ {A = ℕ} 0 1 = cc in
     omega arith
 
-pub returns_in_err_take : goal.returns_in_err_take
-returns_in_err_take g c =
+pub returns-in-err-take : goal.returns-in-err-take
+returns-in-err-take g c =
     absurd
-    (not_empty _ _ _ _ _ c.in_ok_send.ensures.waits (omega arith) c.in_err_take.ensures.answer)
+    (not-empty _ _ _ _ _ c.in-ok-send.ensures.waits (omega arith) c.in-err-take.ensures.answer)

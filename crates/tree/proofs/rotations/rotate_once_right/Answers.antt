@@ -2,11 +2,11 @@ use Rattle.std.proofs.Common.{arith}
 use Rattle.tree.proofs.Writes.{right_first, right_second, done_done}
 use Rattle.tree.proofs.rotations.rotate_once_right.Goals as goal
 
-pub plant_requires : goal.plant_requires
-plant_requires g c = (c.requires.1, c.requires.2, right_first g.P.PlaceKind.model c.requires.3)
+pub plant-requires : goal.plant-requires
+plant-requires g c = (c.requires.1, c.requires.2, right_first g.P.PlaceKind.model c.requires.3)
 
-pub plant_requires_2 : goal.plant_requires_2
-plant_requires_2 g c =
+pub plant-requires-2 : goal.plant-requires-2
+plant-requires-2 g c =
     let m = g.P.PlaceKind.model in
     let y = c.requires.3 in
     (c.requires.0, _, right_second m y c.args.q _ (omega arith) (c.plant.ensures _ _ (right_first m y)))
@@ -16,4 +16,4 @@ returns g c =
     let m = g.P.PlaceKind.model in
     λ ta tb tc y.
     let d = c.plant.ensures _ _ (right_first m y) in
-    done_done m d (c.plant_2.ensures _ _ (right_second m y c.args.q _ (omega arith) d)) (λ j z. omega arith)
+    done_done m d (c.plant-2.ensures _ _ (right_second m y c.args.q _ (omega arith) d)) (λ j z. omega arith)

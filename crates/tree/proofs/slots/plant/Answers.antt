@@ -1,8 +1,8 @@
 use Rattle.tree.proofs.Writes.{room, planted}
 use Rattle.tree.proofs.slots.plant.Goals as goal
 
-pub link_requires : goal.link_requires
-link_requires g c = room g.P.PlaceKind.model c.requires.2
+pub link-requires : goal.link-requires
+link-requires g c = room g.P.PlaceKind.model c.requires.2
 
 pub returns : goal.returns
 returns g c = λ l r y. planted g.P.PlaceKind.model _ c.args.place c.link.ensures y

@@ -4,68 +4,68 @@ use Rattle.tree.proofs.Descent.{left_in, right_in}
 use Rattle.tree.proofs.Loops.{suffix_end, suffix_step_left, suffix_step_right}
 use Rattle.tree.proofs.walks.suffix.Goals as goal
 
-pub loop_slot_init : goal.loop_slot_init
-loop_slot_init g c = λ t y. record { rest = t; held = y; joined = λ h. h; same = λ h. refl }
+pub loop-slot-init : goal.loop-slot-init
+loop-slot-init g c = λ t y. record { rest = t; held = y; joined = λ h. h; same = λ h. refl }
 
-pub place_at_here_requires : goal.place_at_here_requires
-place_at_here_requires g c = tree_root g.P.PlaceKind.model (c.loop_slot.invariant _ c.requires.1).held (omega arith)
+pub place-at-here-requires : goal.place-at-here-requires
+place-at-here-requires g c = tree_root g.P.PlaceKind.model (c.loop-slot.invariant _ c.requires.1).held (omega arith)
 
-pub left_at_left_requires : goal.left_at_left_requires
-left_at_left_requires g c = tree_root g.P.PlaceKind.model (c.loop_slot.invariant _ c.requires.1).held (omega arith)
+pub left-at-left-requires : goal.left-at-left-requires
+left-at-left-requires g c = tree_root g.P.PlaceKind.model (c.loop-slot.invariant _ c.requires.1).held (omega arith)
 
-pub right_at_right_requires : goal.right_at_right_requires
-right_at_right_requires g c = tree_root g.P.PlaceKind.model (c.loop_slot.invariant _ c.requires.1).held (omega arith)
+pub right-at-right-requires : goal.right-at-right-requires
+right-at-right-requires g c = tree_root g.P.PlaceKind.model (c.loop-slot.invariant _ c.requires.1).held (omega arith)
 
-pub count_at_lower_requires : goal.count_at_lower_requires
-count_at_lower_requires g c =
+pub count-at-lower-requires : goal.count-at-lower-requires
+count-at-lower-requires g c =
     let m = g.P.PlaceKind.model in
-    let w = c.loop_slot.invariant _ c.requires.1 in
-    let o = tree_open m w.held (omega arith) c.place_at_here.ensures c.left_at_left.ensures
-    c.right_at_right.ensures in
+    let w = c.loop-slot.invariant _ c.requires.1 in
+    let o = tree_open m w.held (omega arith) c.place-at-here.ensures c.left-at-left.ensures
+    c.right-at-right.ensures in
     left_in m w.held o
 
-pub loop_slot_smaller_then_skip_lower : goal.loop_slot_smaller_then_skip_lower
-loop_slot_smaller_then_skip_lower g c =
+pub loop-slot-smaller-then-skip-lower : goal.loop-slot-smaller-then-skip-lower
+loop-slot-smaller-then-skip-lower g c =
     let m = g.P.PlaceKind.model in
-    let w = c.loop_slot.invariant _ c.requires.1 in
-    let o = tree_open m w.held (omega arith) c.place_at_here.ensures c.left_at_left.ensures
-    c.right_at_right.ensures in
+    let w = c.loop-slot.invariant _ c.requires.1 in
+    let o = tree_open m w.held (omega arith) c.place-at-here.ensures c.left-at-left.ensures
+    c.right-at-right.ensures in
     less_right m w.held o _ refl
 
-pub loop_slot_preserved_then_skip_lower : goal.loop_slot_preserved_then_skip_lower
-loop_slot_preserved_then_skip_lower g c = λ t y.
+pub loop-slot-preserved-then-skip-lower : goal.loop-slot-preserved-then-skip-lower
+loop-slot-preserved-then-skip-lower g c = λ t y.
     let m = g.P.PlaceKind.model in
-    let w = c.loop_slot.invariant t y in
-    let o = tree_open m w.held (omega arith) c.place_at_here.ensures c.left_at_left.ensures
-    c.right_at_right.ensures in
-    suffix_step_right m g.met.P.PlaceKind.lawful w o c.count_at_lower.ensures c.if_skip_lower.true
+    let w = c.loop-slot.invariant t y in
+    let o = tree_open m w.held (omega arith) c.place-at-here.ensures c.left-at-left.ensures
+    c.right-at-right.ensures in
+    suffix_step_right m g.met.P.PlaceKind.lawful w o c.count-at-lower.ensures c.if-skip-lower.true
 
-pub joined_at_joined_requires : goal.joined_at_joined_requires
-joined_at_joined_requires g c =
+pub joined-at-joined-requires : goal.joined-at-joined-requires
+joined-at-joined-requires g c =
     let m = g.P.PlaceKind.model in
-    let w = c.loop_slot.invariant _ c.requires.1 in
-    let o = tree_open m w.held (omega arith) c.place_at_here.ensures c.left_at_left.ensures
-    c.right_at_right.ensures in
+    let w = c.loop-slot.invariant _ c.requires.1 in
+    let o = tree_open m w.held (omega arith) c.place-at-here.ensures c.left-at-left.ensures
+    c.right-at-right.ensures in
     right_in m w.held o
 
-pub loop_slot_smaller : goal.loop_slot_smaller
-loop_slot_smaller g c =
+pub loop-slot-smaller : goal.loop-slot-smaller
+loop-slot-smaller g c =
     let m = g.P.PlaceKind.model in
-    let w = c.loop_slot.invariant _ c.requires.1 in
-    let o = tree_open m w.held (omega arith) c.place_at_here.ensures c.left_at_left.ensures
-    c.right_at_right.ensures in
+    let w = c.loop-slot.invariant _ c.requires.1 in
+    let o = tree_open m w.held (omega arith) c.place-at-here.ensures c.left-at-left.ensures
+    c.right-at-right.ensures in
     less_left m w.held o _ refl
 
-pub loop_slot_preserved : goal.loop_slot_preserved
-loop_slot_preserved g c = λ t y.
+pub loop-slot-preserved : goal.loop-slot-preserved
+loop-slot-preserved g c = λ t y.
     let m = g.P.PlaceKind.model in
-    let w = c.loop_slot.invariant t y in
-    let o = tree_open m w.held (omega arith) c.place_at_here.ensures c.left_at_left.ensures
-    c.right_at_right.ensures in
-    suffix_step_left m g.met.P.PlaceKind.lawful w o c.count_at_lower.ensures c.if_skip_lower.false
-    (c.join_own.ensures ∙ ap (m.joined c.loop_slot.joined) c.region.ensures)
-    c.joined_at_joined.ensures
+    let w = c.loop-slot.invariant t y in
+    let o = tree_open m w.held (omega arith) c.place-at-here.ensures c.left-at-left.ensures
+    c.right-at-right.ensures in
+    suffix_step_left m g.met.P.PlaceKind.lawful w o c.count-at-lower.ensures c.if-skip-lower.false
+    (c.join-own.ensures ∙ ap (m.joined c.loop-slot.joined) c.region.ensures)
+    c.joined-at-joined.ensures
 
 pub returns : goal.returns
 returns g c =
-    λ t y. suffix_end g.P.PlaceKind.model g.met.P.PlaceKind.lawful (c.loop_slot.invariant t y) (omega arith)
+    λ t y. suffix_end g.P.PlaceKind.model g.met.P.PlaceKind.lawful (c.loop-slot.invariant t y) (omega arith)

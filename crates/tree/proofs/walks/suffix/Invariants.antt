@@ -3,10 +3,10 @@ use Rattle.tree.specs.Slots.{at, count_of}
 use Rattle.tree.proofs.Loops.{SpanWays}
 use Rattle.tree.proofs.walks.suffix.Given as goal
 
-abbrev pub invariant_loop_slot : goal.invariant_loop_slot
-invariant_loop_slot g l =
+abbrev pub invariant-loop-slot : goal.invariant-loop-slot
+invariant-loop-slot g l =
     SpanWays g.P.PlaceKind.model drop l.nodes l.root l.slot l.first l.skip l.initial.joined
     l.joined
 
-abbrev pub decreases_loop_slot : goal.decreases_loop_slot
-decreases_loop_slot g l = count_of (at l.nodes l.slot)
+abbrev pub decreases-loop-slot : goal.decreases-loop-slot
+decreases-loop-slot g l = count_of (at l.nodes l.slot)

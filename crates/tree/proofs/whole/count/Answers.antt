@@ -6,27 +6,27 @@ use Rattle.tree.proofs.Shape.{shape_of, shape_few, shape_root, shape_none}
 use Rattle.tree.proofs.Presence.{row_says}
 use Rattle.tree.proofs.whole.count.Goals as goal
 
-pub returns_then_root_eq0 : goal.returns_then_root_eq0
-returns_then_root_eq0 g c =
+pub returns-then-root-eq0 : goal.returns-then-root-eq0
+returns-then-root-eq0 g c =
     let ns = c.args.nodes.now in
-    let e = shape_none ns c.args.root _ (shape_of ns c.args.root c.requires.shape) c.if_root_eq0.true in
+    let e = shape_none ns c.args.root _ (shape_of ns c.args.root c.requires.shape) c.if-root-eq0.true in
     record {
       many = (sym (length_row (tree_in ns c.args.root) ∙ e), omega arith);
       row = row_says ns c.args.root
           (shape_of ns c.args.root c.requires.shape);
     }
 
-pub count_at_requires : goal.count_at_requires
-count_at_requires g c =
+pub count-at-requires : goal.count-at-requires
+count-at-requires g c =
     let ns = c.args.nodes.now in
-    shape_root ns c.args.root _ (shape_of ns c.args.root c.requires.shape) (omega (arith, c.if_root_eq0.false))
+    shape_root ns c.args.root _ (shape_of ns c.args.root c.requires.shape) (omega (arith, c.if-root-eq0.false))
 
 pub returns : goal.returns
 returns g c =
     let ns = c.args.nodes.now in
     let y = shape_of ns c.args.root c.requires.shape in
-    let a = count_is ns c.args.root c.count_at.result (tree_in ns c.args.root) y.root_is
-    c.count_at.ensures y.held in
+    let a = count_is ns c.args.root c.count-at.result (tree_in ns c.args.root) y.root_is
+    c.count-at.ensures y.held in
     let b = shape_few ns c.args.root _ y in
     record {
       many = (a ∙ sym (length_row (tree_in ns c.args.root)), omega arith);

@@ -1,5 +1,5 @@
 use Rattle.std.proofs.Common.{◌≡◌, ◌+◌, ◌-◌, take, drop, refl, ap, ◌∙◌, arith}
-use Rattle.std.proofs.lemmas.List.{drop_take}
+use Rattle.std.proofs.lemmas.List.{drop-take}
 use Rattle.tree.specs.Whole.{tree_in, row_in}
 use Rattle.tree.proofs.Held.{count_is}
 use Rattle.tree.proofs.Without.{length_row}
@@ -7,16 +7,16 @@ use Rattle.tree.proofs.Shape.{shape_of, shape_few, shape_some}
 use Rattle.tree.proofs.Presence.{shape_tree_at}
 use Rattle.tree.proofs.whole.covers.Goals as goal
 
-pub overflow_add_ends : goal.overflow_add_ends
-overflow_add_ends g c =
+pub overflow-add-ends : goal.overflow-add-ends
+overflow-add-ends g c =
     let ns = c.args.nodes.now in
     let y = shape_of ns c.args.root c.requires.shape in
     let l = length_row (tree_in ns c.args.root) in
     let few = shape_few ns c.args.root _ y in
     omega arith
 
-pub between_requires : goal.between_requires
-between_requires g c =
+pub between-requires : goal.between-requires
+between-requires g c =
     let m = g.P.PlaceKind.model in
     let ns = c.args.nodes.now in
     let y = shape_of ns c.args.root c.requires.shape in
@@ -40,4 +40,4 @@ returns g c = λ o e es is.
     let r = c.requires.range in
     let long : last + 1 ≡ first + (last + 1 - first) = omega arith in
     c.between.ensures _ (shape_tree_at m ns root _ y (shape_some ns root _ y (omega arith))) o.joined e es
-    (ap (λ n. drop first (take n (row_in ns root))) long ∙ drop_take first (last + 1 - first) (row_in ns root) ∙ is)
+    (ap (λ n. drop first (take n (row_in ns root))) long ∙ drop-take first (last + 1 - first) (row_in ns root) ∙ is)

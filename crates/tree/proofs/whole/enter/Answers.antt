@@ -4,8 +4,8 @@ use Rattle.tree.proofs.Presence.{nowhere}
 use Rattle.tree.proofs.Entering.{shape_grow, grown_shape, view_grown, others_kept, order_grown}
 use Rattle.tree.proofs.whole.enter.Goals as goal
 
-pub insert_requires : goal.insert_requires
-insert_requires g c =
+pub insert-requires : goal.insert-requires
+insert-requires g c =
     let r = c.requires.room in
     let ns = c.args.nodes.now in (
       _,
@@ -32,5 +32,5 @@ returns g c =
       shape = shape_made ms res _ w;
       view = view_grown m ns ms root res s p _ y w off;
       others = λ j none. others_kept m ns ms res _ w d j (nowhere ms j none);
-      order = order_grown m c.ahead_laws.ensures ns ms root res s p _ y w off;
+      order = order_grown m c.ahead-laws.ensures ns ms root res s p _ y w off;
     }

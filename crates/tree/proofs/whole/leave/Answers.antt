@@ -10,15 +10,15 @@ use Rattle.tree.proofs.Presence.{shape_tree_at, nowhere}
 use Rattle.tree.proofs.Leaving.{shape_stays, shape_went, was, others_stay, others_went, found, view_went, order_went}
 use Rattle.tree.proofs.whole.leave.Goals as goal
 
-pub count_at_many_requires : goal.count_at_many_requires
-count_at_many_requires g c =
+pub count-at-many-requires : goal.count-at-many-requires
+count-at-many-requires g c =
     let ns = c.args.nodes.now in
     let y = shape_of ns c.args.root c.requires.shape in
     let r = c.requires.room in
     root_in ns c.args.root _ y.root_is (omega arith) y.held
 
-pub remove_rest_requires : goal.remove_rest_requires
-remove_rest_requires g c =
+pub remove-rest-requires : goal.remove-rest-requires
+remove-rest-requires g c =
     let ns = c.args.nodes.now in
     let r = c.requires.room in (
       _,
@@ -26,70 +26,70 @@ remove_rest_requires g c =
           (omega arith),
     )
 
-pub count_at_requires : goal.count_at_requires
-count_at_requires g c =
+pub count-at-requires : goal.count-at-requires
+count-at-requires g c =
     let m = g.P.PlaceKind.model in
     let ns = c.args.nodes.now in
     let r = c.requires.room in
     let pos : 0 < length ns = omega arith in
-    let d = c.remove_rest.ensures _
+    let d = c.remove-rest.ensures _
     (shape_tree_at m ns c.args.root _ (shape_of ns c.args.root c.requires.shape) pos) in
-    root_in c.remove_rest.new.nodes c.remove_rest.result _ d.root (omega arith) d.held
+    root_in c.remove-rest.new.nodes c.remove-rest.result _ d.root (omega arith) d.held
 
-pub returns_then_count_at_many : goal.returns_then_count_at_many
-returns_then_count_at_many g c =
+pub returns-then-count-at-many : goal.returns-then-count-at-many
+returns-then-count-at-many g c =
     let m = g.P.PlaceKind.model in
     let ns = c.args.nodes.now in
-    let ms = c.remove_rest.new.nodes in
+    let ms = c.remove-rest.new.nodes in
     let root = c.args.root in
-    let res = c.remove_rest.result in
+    let res = c.remove-rest.result in
     let r = c.requires.room in
     let pos : 0 < length ns = omega arith in
     let y = shape_of ns root c.requires.shape in
-    let d = c.remove_rest.ensures _ (shape_tree_at m ns root _ y pos) in
-    let a = count_is ns root c.count_at_many.result (tree_in ns root) y.root_is c.count_at_many.ensures
+    let d = c.remove-rest.ensures _ (shape_tree_at m ns root _ y pos) in
+    let a = count_is ns root c.count-at-many.result (tree_in ns root) y.root_is c.count-at-many.ensures
     y.held in
-    let b = count_is ms res c.count_at.result (shrunk m c.args.place c.args.set (tree_in ns root)) d.root
-    c.count_at.ensures d.held in
+    let b = count_is ms res c.count-at.result (shrunk m c.args.place c.args.set (tree_in ns root)) d.root
+    c.count-at.ensures d.held in
     let same : size (shrunk m c.args.place c.args.set (tree_in ns root)) ≡ size (tree_in ns root) = sym b
-    ∙ c.if_count_at_many.true ∙ a in
+    ∙ c.if-count-at-many.true ∙ a in
     let z = shape_stays m c.args.set c.args.place y c.requires.there d same in
     record {
       shape = shape_made ms res _ z;
-      view = λ ord. absurd (found m c.args.set c.args.place y c.requires.there d c.ahead_laws.ensures ord
+      view = λ ord. absurd (found m c.args.set c.args.place y c.requires.there d c.ahead-laws.ensures ord
           same);
       others = λ j none. others_stay m c.args.set c.args.place y c.requires.there d j (nowhere ns j none);
       order = λ ord. absurd
-          (found m c.args.set c.args.place y c.requires.there d c.ahead_laws.ensures ord same);
+          (found m c.args.set c.args.place y c.requires.there d c.ahead-laws.ensures ord same);
     }
 
 pub returns : goal.returns
 returns g c =
     let m = g.P.PlaceKind.model in
     let ns = c.args.nodes.now in
-    let ms = c.remove_rest.new.nodes in
+    let ms = c.remove-rest.new.nodes in
     let end = c.clear.new.nodes in
     let root = c.args.root in
-    let res = c.remove_rest.result in
+    let res = c.remove-rest.result in
     let r = c.requires.room in
     let pos : 0 < length ns = omega arith in
     let y = shape_of ns root c.requires.shape in
-    let d = c.remove_rest.ensures _ (shape_tree_at m ns root _ y pos) in
-    let a = count_is ns root c.count_at_many.result (tree_in ns root) y.root_is c.count_at_many.ensures
+    let d = c.remove-rest.ensures _ (shape_tree_at m ns root _ y pos) in
+    let a = count_is ns root c.count-at-many.result (tree_in ns root) y.root_is c.count-at-many.ensures
     y.held in
-    let b = count_is ms res c.count_at.result (shrunk m c.args.place c.args.set (tree_in ns root)) d.root
-    c.count_at.ensures d.held in
+    let b = count_is ms res c.count-at.result (shrunk m c.args.place c.args.set (tree_in ns root)) d.root
+    c.count-at.ensures d.held in
     let ne : size (shrunk m c.args.place c.args.set (tree_in ns root)) ≡ size (tree_in ns root) → ⊥ = λ e.
-    c.if_count_at_many.false (b ∙ e ∙ sym a) in
+    c.if-count-at-many.false (b ∙ e ∙ sym a) in
     let w = was m c.args.set c.args.place y c.requires.there d ne in
     let is = c.clear.ensures w.0 w.1 in
     let z = subst (λ n. ShapeAt n res (shrunk m c.args.place c.args.set (tree_in ns root))) (sym is)
     (shape_went m c.args.set c.args.place y c.requires.there d ne) in
     record {
       shape = shape_made end res _ z;
-      view = λ ord. view_went m c.args.set c.args.place y c.requires.there d c.ahead_laws.ensures ord end z;
+      view = λ ord. view_went m c.args.set c.args.place y c.requires.there d c.ahead-laws.ensures ord end z;
       others = λ j none. ap (λ n. slice_get n j) is
           ∙ others_went m c.args.set c.args.place y c.requires.there d (idle w.0) j (nowhere ns j none);
-      order = λ ord. order_went m c.args.set c.args.place y c.requires.there d c.ahead_laws.ensures ord end
+      order = λ ord. order_went m c.args.set c.args.place y c.requires.there d c.ahead-laws.ensures ord end
           z;
     }

@@ -2,5 +2,5 @@ use Rattle.std.proofs.Common.{sym, arith}
 use Rattle.tree.proofs.Presence.{past}
 use Rattle.tree.proofs.whole.place_of.Goals as goal
 
-pub returns_then_set_limit : goal.returns_then_set_limit
-returns_then_set_limit g c = sym (past c.args.nodes.now c.args.set (omega arith))
+pub returns-then-set-limit : goal.returns-then-set-limit
+returns-then-set-limit g c = sym (past c.args.nodes.now c.args.set (omega arith))

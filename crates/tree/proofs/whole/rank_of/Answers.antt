@@ -6,8 +6,8 @@ use Rattle.tree.proofs.Presence.{shape_tree_at}
 use Rattle.tree.proofs.Ranks.{ranked_is}
 use Rattle.tree.proofs.whole.rank_of.Goals as goal
 
-pub rank_requires : goal.rank_requires
-rank_requires g c =
+pub rank-requires : goal.rank-requires
+rank-requires g c =
     let ns = c.args.nodes.now in
     let r = c.requires.room in (
       _,
@@ -25,6 +25,6 @@ returns g c =
     let a = ranked_low m c.args.place c.args.set (tree_in ns c.args.root) in
     record {
       low = omega (arith, length_row (tree_in ns c.args.root));
-      rank = λ o. is ∙ ranked_is m c.ahead_laws.ensures ns c.args.root c.args.set c.args.place _ y
+      rank = λ o. is ∙ ranked_is m c.ahead-laws.ensures ns c.args.root c.args.set c.args.place _ y
           c.requires.there o;
     }

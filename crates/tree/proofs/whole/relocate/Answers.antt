@@ -4,29 +4,29 @@ use Rattle.tree.specs.Whole.{place_in}
 use Rattle.tree.proofs.Presence.{gone_count, cond_cond, still_absent, uncounted}
 use Rattle.tree.proofs.whole.relocate.Goals as goal
 
-pub returns_then_count_at_gt0 : goal.returns_then_count_at_gt0
-returns_then_count_at_gt0 g c =
+pub returns-then-count-at-gt0 : goal.returns-then-count-at-gt0
+returns-then-count-at-gt0 g c =
     let r = c.requires.room in
     let s = c.args.set in
-    let e = c.leave_rest.ensures in
+    let e = c.leave-rest.ensures in
     let ns = c.args.nodes.now in
     record {
       shape = e.shape;
-      view = λ o. absurd (gone_count c.leave_rest.new.nodes s (place_in ns s) (e.view o s) (omega arith)
-          (omega (arith, c.count_at.ensures, c.if_count_at_gt0.true)));
+      view = λ o. absurd (gone_count c.leave-rest.new.nodes s (place_in ns s) (e.view o s) (omega arith)
+          (omega (arith, c.count-at.ensures, c.if-count-at-gt0.true)));
       others = e.others;
-      order = λ o. absurd (gone_count c.leave_rest.new.nodes s (place_in ns s) (e.view o s) (omega arith)
-          (omega (arith, c.count_at.ensures, c.if_count_at_gt0.true)));
+      order = λ o. absurd (gone_count c.leave-rest.new.nodes s (place_in ns s) (e.view o s) (omega arith)
+          (omega (arith, c.count-at.ensures, c.if-count-at-gt0.true)));
     }
 
-pub enter_requires : goal.enter_requires
-enter_requires g c =
+pub enter-requires : goal.enter-requires
+enter-requires g c =
     let r = c.requires.room in
     record {
-      shape = c.leave_rest.ensures.shape;
+      shape = c.leave-rest.ensures.shape;
       room = (r.0, omega arith);
-      absent = uncounted c.leave_rest.new.nodes c.args.set
-          (omega (arith, c.count_at.ensures, c.if_count_at_gt0.false));
+      absent = uncounted c.leave-rest.new.nodes c.args.set
+          (omega (arith, c.count-at.ensures, c.if-count-at-gt0.false));
     }
 
 pub returns : goal.returns
@@ -34,7 +34,7 @@ returns g c =
     let m = g.P.PlaceKind.model in
     let s = c.args.set in
     let p = c.args.place in
-    let e = c.leave_rest.ensures in
+    let e = c.leave-rest.ensures in
     let f = c.enter.ensures in
     let ns = c.args.nodes.now in
     record {
@@ -42,7 +42,7 @@ returns g c =
       view = λ o j. f.view j ∙ ap (λ w. cond (eqb j s) (Some p) w) (e.view o j)
           ∙ cond_cond (eqb j s) (Some p) None (place_in ns j);
       others = λ j none. f.others j
-          (still_absent ns c.leave_rest.new.nodes c.enter.new.nodes s j p c.args.old c.requires.there
+          (still_absent ns c.leave-rest.new.nodes c.enter.new.nodes s j p c.args.old c.requires.there
           none
           (e.others j none) (f.view j)) ∙ e.others j none;
       order = λ o a. let w = e.order o in let v = f.order w.0 a in

@@ -2,14 +2,14 @@ use Rattle.std.proofs.Common.{rules}
 use Rattle.open_queries.proofs.Tables.{holders_turned, same_unless, none_unless, absent_in_none, other_in_none, table_status_none, answer_marked, after_marked, count_marked}
 use Rattle.open_queries.proofs.open_queries.OpenQueries.mark.Goals as goal
 
-pub invariant_of_self : goal.invariant_of_self
-invariant_of_self c = search (rules, holders_turned)
+pub invariant-of-self : goal.invariant-of-self
+invariant-of-self c = search (rules, holders_turned)
 
-pub returns_in_default : goal.returns_in_default
-returns_in_default c = search (rules, same_unless, none_unless, absent_in_none, table_status_none)
+pub returns-in-default : goal.returns-in-default
+returns-in-default c = search (rules, same_unless, none_unless, absent_in_none, table_status_none)
 
-pub returns_then_ne : goal.returns_then_ne
-returns_then_ne c = search (rules, same_unless, none_unless, other_in_none)
+pub returns-then-ne : goal.returns-then-ne
+returns-then-ne c = search (rules, same_unless, none_unless, other_in_none)
 
 pub returns : goal.returns
 returns c = search (rules, answer_marked, after_marked, count_marked)

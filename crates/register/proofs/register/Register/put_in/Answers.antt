@@ -3,15 +3,15 @@ use Rattle.register.specs.View.{place_of}
 use Rattle.register.proofs.Apart.{empty_shaped, kept_since}
 use Rattle.register.proofs.register.Register.put_in.Goals as goal
 
-pub invariant_of_empty : goal.invariant_of_empty
-invariant_of_empty g c = (empty_shaped g.row.P.Denot g.row.P_Region.Denot, tt)
+pub invariant-of-empty : goal.invariant-of-empty
+invariant-of-empty g c = (empty_shaped g.row.P.Denot g.row.P-Region.Denot, tt)
 
 pub returns : goal.returns
 returns g c =
-    let is = c.replace_slots.ensures.value in
-    let e = c.enter_root.ensures in
+    let is = c.replace-slots.ensures.value in
+    let e = c.enter-root.ensures in
     record {
       after = λ j. e.view j ∙ ap (λ r. cond (eqb j c.args.set) (Some c.args.place) (place_of r j)) is;
-      kept = kept_since g.P.PlaceKind.model c.args.self.now c.replace_slots.result _ is (omega arith)
+      kept = kept_since g.P.PlaceKind.model c.args.self.now c.replace-slots.result _ is (omega arith)
           (λ o. (e.order o c.requires.admitted).0) (λ j _ absent. e.others j absent);
     }

@@ -2,17 +2,17 @@ use Rattle.std.proofs.Common.{◌≡◌, None, arith}
 use Rattle.register.proofs.Apart.{empty_shaped, kept_since, after_since}
 use Rattle.register.proofs.register.Register.take_out.Goals as goal
 
-pub invariant_of_empty : goal.invariant_of_empty
-invariant_of_empty g c = (empty_shaped g.row.P.Denot g.row.P_Region.Denot, tt)
+pub invariant-of-empty : goal.invariant-of-empty
+invariant-of-empty g c = (empty_shaped g.row.P.Denot g.row.P-Region.Denot, tt)
 
 pub returns : goal.returns
 returns g c =
     let m = g.P.PlaceKind.model in
-    let is = c.replace_slots.ensures.value in
-    let e = c.leave_root.ensures in
+    let is = c.replace-slots.ensures.value in
+    let e = c.leave-root.ensures in
     record {
-      after = after_since m c.args.self.now c.replace_slots.result c.leave_root.new.nodes c.args.set None is
+      after = after_since m c.args.self.now c.replace-slots.result c.leave-root.new.nodes c.args.set None is
           e.view;
-      kept = kept_since m c.args.self.now c.replace_slots.result _ is (omega arith) (λ o. (e.order o).0)
+      kept = kept_since m c.args.self.now c.replace-slots.result _ is (omega arith) (λ o. (e.order o).0)
           (λ j absent _. e.others j absent);
     }
