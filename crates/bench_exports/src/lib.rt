@@ -1,4 +1,6 @@
 //! The functions that the benchmark under bench/ calls from Rust.
+#![tactic(auto)]
+
 ghost use Rattle.std.specs.Prelude.{◌≡◌};
 ghost use Rattle.curve.specs.Hilbert.{cell as cell_xy};
 ghost use Rattle.curve.specs.Grid.{grid_key, grid_cell};

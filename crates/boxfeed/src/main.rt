@@ -1,4 +1,6 @@
 //! Reads a feed from standard input and prints the line of its first record.
+#![tactic(auto)]
+
 use std::io::Read;
 
 // Bytes past these are not read.

@@ -1,4 +1,6 @@
 //! Edges of buckets.
+#![tactic(auto)]
+
 #[cfg(test)]
 mod tests {
     use buckets::Ends;

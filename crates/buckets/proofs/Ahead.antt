@@ -1,10 +1,10 @@
 -- Who stands first of two entries.
-use Rattle.std.proofs.Common.{◌≡◌, ℕ, ◌<◌, Bool, true, false, cond, eqb, ltb, ◌⊎◌, Ordering, Less, Equal, Greater, sym, refl, ap, ◌∙◌, subst, inl, inr, ⊎_elim, true≢false, arith}
+use Rattle.std.proofs.Common.{◌≡◌, ℕ, ◌<◌, Bool, true, false, cond, eqb, ltb, Ordering, Less, Equal, Greater, sym, refl, ap, ◌∙◌, subst, ⊎_elim, arith}
 use mathlib.Core.Bool.{false≢true}
 use Rattle.std.proofs.lemmas.Bool.{lt-ltb, ltb-true, cases_order}
 use Rattle.std.specs.Ordering.{ordering_then, is_lt, ordering_reverse, nat_cmp}
 use Rattle.kinds.specs.Rules.{Model, Admitted, Laws}
-use Rattle.buckets.specs.Rows.{Entry, entry, ahead, AheadLaws}
+use Rattle.buckets.specs.Rows.{Entry, ahead, AheadLaws}
 
 below_first : (x y : ℕ) → x < y → is_lt (nat_cmp x y) ≡ true
 below_first x y l = rw (lt-ltb x y l)

@@ -1,8 +1,7 @@
 -- Ranks and the members of a run of ranks.
-use Rattle.std.proofs.Common.{◌≡◌, ℕ, zero, suc, ◌+◌, ◌-◌, ◌*◌, ◌/◌, ◌<◌, ◌≤◌, Bool, true, false, cond, eqb, ◌⊎◌, List, [], ◌∷◌, length, take, drop, sym, refl, ap, ◌∙◌, subst, inl, inr, ⊎_elim, arith, length-drop}
+use Rattle.std.proofs.Common.{◌≡◌, ℕ, zero, suc, ◌+◌, ◌-◌, ◌/◌, ◌<◌, ◌≤◌, List, [], ◌∷◌, length, take, drop, sym, refl, ap, subst, ⊎_elim, arith, length-drop}
 use Rattle.std.proofs.lemmas.List.{length-take-le}
 use Rattle.std.proofs.lemmas.Bool.{eq-eqb, ne_eqb}
-use Rattle.buckets.specs.declared.Ends.{Ends}
 use Rattle.buckets.specs.Ends.{bucket_number, ends_of, EndsLaws}
 use Rattle.buckets.specs.Rows.{Entry, In, here, later, rank_of, OneEach}
 use Rattle.buckets.specs.Regions.{members, MemberLaws}

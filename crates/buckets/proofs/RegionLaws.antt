@@ -1,5 +1,5 @@
 -- The join of one-place regions is the least region that covers the places.
-use Rattle.std.proofs.Common.{◌≡◌, List, [], ◌∷◌, sym, refl, ap, ◌∙◌}
+use Rattle.std.proofs.Common.{List, [], ◌∷◌, sym, ap, ◌∙◌}
 use Rattle.kinds.specs.Rules.{Model, Laws, Within, Covers}
 use Rattle.buckets.specs.Rows.{Entry, In, here, later}
 use Rattle.buckets.specs.Regions.{joined_with, region_of, CoversAll, RegionLaws}

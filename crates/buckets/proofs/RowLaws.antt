@@ -1,6 +1,5 @@
 -- The row is sorted, holds exactly the present sets, and is the only such list.
-use Rattle.std.proofs.Common.{◌≡◌, ℕ, zero, suc, ◌<◌, ◌≤◌, Bool, true, false, cond, ◌⊎◌, List, [], ◌∷◌, Some, None, Option, sym, refl, ap, ◌∙◌, subst, inl, inr, ⊎_elim, true≢false, arith}
-use mathlib.Core.Bool.{false≢true}
+use Rattle.std.proofs.Common.{◌≡◌, ℕ, zero, suc, Bool, true, false, cond, ◌⊎◌, List, [], ◌∷◌, Some, None, Option, sym, refl, ap, ◌∙◌, subst, inl, inr, ⊎_elim, true≢false, arith}
 use Rattle.std.proofs.lemmas.Bool.{cases_eq}
 use Rattle.kinds.specs.Rules.{Model, Admitted}
 use Rattle.buckets.specs.Rows.{Entry, entry, In, here, later, ahead, inserted, with_set, row, Sorted, AllAdmitted, OneEach, IsRow, PlacesAdmitted, RowLaws, AheadLaws}

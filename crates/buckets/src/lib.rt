@@ -1,4 +1,6 @@
 //! The row of the present sets, a set's rank, its bucket, and the bucket's region: definitions and their laws.
+#![tactic(auto)]
+
 ghost use Rattle.std.specs.Prelude.{◌≡◌, ℕ, ◌/◌, ◌<◌, ◌≤◌, List, length, Some, None};
 ghost use Rattle.buckets.specs.Ends.{ends_of, ends_of_rank, EndsLaws};
 ghost use Rattle.buckets.specs.Regions.{MemberLaws, RegionLaws};

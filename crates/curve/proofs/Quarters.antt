@@ -1,11 +1,11 @@
 -- One step of the curve: from a cell in a square of side s + s into its quarter of side s, and out again.
-use Rattle.std.proofs.Common.{◌≡◌, ℕ, zero, suc, ◌+◌, ◌-◌, ◌/◌, ◌%◌, ◌<◌, ◌≤◌, ltb, ◌⊎◌, sym, refl, ap, ◌∙◌, inl, inr, ⊎_elim, mod-eq_of_lt, arith}
+use Rattle.std.proofs.Common.{◌≡◌, ℕ, zero, suc, ◌+◌, ◌-◌, ◌/◌, ◌%◌, ◌<◌, ◌≤◌, ◌⊎◌, sym, refl, ap, ◌∙◌, inl, inr, ⊎_elim, mod-eq_of_lt, arith}
 use mathlib.Core.Path.{subst⁻¹}
 use native.Mathlib.Nat.{mod-eq-sub-mod, div-eq_of_lt, div-eq_of_lt-le}
 use Rattle.std.proofs.lemmas.Bool.{lt-ltb, le-ltb}
 use Rattle.std.proofs.lemmas.Bool.Decides.{leb_tells}
 use Rattle.curve.specs.declared.Cell.{Cell}
-use Rattle.curve.specs.Hilbert.{cell, digit, reflected, inner, outer}
+use Rattle.curve.specs.Hilbert.{cell, digit, inner, outer}
 use Rattle.curve.specs.Laws.{InSquare, Beside}
 
 pub below_or_not : (a b : ℕ) → (a < b) ⊎ (b ≤ a)

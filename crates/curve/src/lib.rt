@@ -1,4 +1,6 @@
 //! Hilbert's curve at order 12: the key of a cell, the cell of a key, and cells compared by key.
+#![tactic(auto)]
+
 ghost use Rattle.std.specs.Prelude.{◌≡◌, ℕ, ◌+◌, ◌*◌, ◌^◌, ◌<◌, ◌≤◌, Some};
 ghost use Rattle.curve.specs.Hilbert.{cell as cell_xy, cells, digit as digit_of, inner as inner_of, outer as outer_of, key_of, cell_of};
 ghost use Rattle.curve.specs.Grid.{grid_key, grid_cell, by_key, LeadsBack, AtKey, OnCurve};

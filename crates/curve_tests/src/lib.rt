@@ -1,4 +1,6 @@
 //! Edges of the grid.
+#![tactic(auto)]
+
 #[cfg(test)]
 mod tests {
     use curve::Cell;

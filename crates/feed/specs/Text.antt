@@ -4,7 +4,7 @@ use Rattle.refusals.specs.Words.{refusal_text}
 use Rattle.feed.specs.declared.Heading.{Heading}
 use Rattle.feed.specs.declared.ReadFault.{ReadFault}
 use Rattle.feed.specs.declared.Stop.{Stop}
-use Rattle.feed.specs.Heading.{read_refusal, heading_of}
+use Rattle.feed.specs.Heading.{read_refusal}
 
 -- The line of a record that was accepted and answers nothing more.
 abbrev pub accepted_text : ℕ → List ℕ

@@ -1,4 +1,6 @@
 //! The feed: reading its records, and the lines that are printed for them.
+#![tactic(auto)]
+
 ghost use Rattle.std.specs.Prelude.{◌≡◌, ◌++◌, IfOk, Some, string_bytes};
 ghost use Rattle.feed.specs.Bytes.{word as word_of};
 ghost use Rattle.feed.specs.Heading.{read_refusal, named, heading_of};

@@ -1,4 +1,6 @@
 //! Headings, good and broken.
+#![tactic(auto)]
+
 #[cfg(test)]
 mod tests {
     use feed::{Heading, ReadFault};

@@ -1,4 +1,6 @@
 //! The kinds in use, from their contracts alone.
+#![tactic(auto)]
+
 ghost use Rattle.std.specs.Prelude.{◌≡◌, ℕ, ◌≤◌, replicate, Ok, Err};
 ghost use Rattle.kinds.specs.declared.fault.KindFault.TheVariants.{TooWide};
 ghost use Rattle.kinds.specs.Bytes.{le16};

@@ -1,12 +1,12 @@
 -- The course meets the rules.
-use Rattle.std.specs.Prelude.{◌≡◌, Bool, true, false, cond, refl}
+use Rattle.std.specs.Prelude.{◌≡◌, true, false, cond, refl}
 use Rattle.std.specs.declared.cmp.Ordering.TheVariants.{Less, Equal}
 use Rattle.std.proofs.Common.{arith, rules}
 use Rattle.std.proofs.lemmas.Bool.Decides.{nat_tests}
 use Rattle.std.specs.Ordering.{ordering_reverse, is_le}
 use Rattle.kinds.specs.declared.course.CoursePlace.{CoursePlace}
 use Rattle.kinds.specs.declared.course.CourseRegion.{CourseRegion}
-use Rattle.kinds.specs.Rules.{Model, Laws}
+use Rattle.kinds.specs.Rules.{Laws}
 use Rattle.kinds.specs.Course.{by_reach, lower, higher, stretch, span, course_bytes, course}
 use Rattle.kinds.specs.Ranks.{least_commutes, least_associates}
 

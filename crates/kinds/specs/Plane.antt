@@ -1,5 +1,5 @@
 -- The plane: a place is a cell of the grid, and places are ordered by the key of their cell.
-use Rattle.std.specs.Prelude.{ℕ, min, max, Bool, List, []}
+use Rattle.std.specs.Prelude.{ℕ, min, max, List, []}
 use Rattle.std.specs.declared.cmp.Ordering.{Ordering}
 use Rattle.curve.specs.declared.Cell.{Cell}
 use Rattle.curve.specs.Hilbert.{cell}

@@ -1,10 +1,10 @@
 -- The plane meets the rules.
-use Rattle.std.specs.Prelude.{◌≡◌, ℕ, true, refl}
+use Rattle.std.specs.Prelude.{◌≡◌, ℕ, refl}
 use Rattle.std.proofs.Common.{sym, ◌∙◌, rules}
 use Rattle.kinds.specs.declared.plane.PlaneRegion.{PlaneRegion}
 use Rattle.kinds.specs.declared.plane_place.PlanePlace.{PlanePlace}
 use Rattle.kinds.specs.Keyed.{carried}
-use Rattle.kinds.specs.Rules.{Model, Laws, Covers}
+use Rattle.kinds.specs.Rules.{Laws}
 use Rattle.kinds.specs.Plane.{cell_of_place, rectangle, hull, plane_bytes, plane}
 use Rattle.kinds.specs.Ranks.{rank_flips, rank_chains, rank_tells}
 use Rattle.kinds.specs.Carried.{same_place, one_place}

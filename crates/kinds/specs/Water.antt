@@ -1,5 +1,5 @@
 -- By water: a place of any kind, on one of several numbered waters. The kind below may itself be by water.
-use Rattle.std.specs.Prelude.{ℕ, ◌+◌, min, max}
+use Rattle.std.specs.Prelude.{◌+◌, min, max}
 use Rattle.std.specs.Ordering.{ordering_then, nat_cmp}
 use Rattle.kinds.specs.declared.water.WaterPlace.{WaterPlace}
 use Rattle.kinds.specs.declared.water.WaterRegion.{WaterRegion}

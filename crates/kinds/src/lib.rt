@@ -1,4 +1,6 @@
 //! Kinds of places: what every kind has, and three of them. The crates above are written once, for every kind.
+#![tactic(auto)]
+
 mod bytes;
 mod course;
 mod fault;

@@ -1,4 +1,6 @@
 //! The lines in use, from what a line means alone.
+#![tactic(auto)]
+
 ghost use Rattle.std.specs.Prelude.{◌≡◌, false, [], length, is_ok, Ok};
 ghost use Rattle.lines.specs.Spool.{slots_in};
 ghost use Rattle.line_examples.specs.Passing.{passed, after_pass};
@@ -7,9 +9,9 @@ use lines::{Line, LineFault, RadioCell, Spool};
 
 /// Sends a message into any line and takes the oldest out.
 pub fn pass<L: Line>(line: &mut L, message: [u8; 64]) -> Result<[u8; 64], LineFault>
-    ensures answer { result ≡ passed (capacity line.old) (waiting line.old) message }
-    ensures waits { waiting line.new ≡ after_pass (capacity line.old) (waiting line.old) message }
-    ensures holds { capacity line.new ≡ capacity line.old }
+    ensures answer { result ≡ passed (L.capacity line.old) (L.waiting line.old) message }
+    ensures waits { L.waiting line.new ≡ after_pass (L.capacity line.old) (L.waiting line.old) message }
+    ensures holds { L.capacity line.new ≡ L.capacity line.old }
     ensures refused { is_ok result ≡ false → line.new ≡ line.old }
 {
     line.send(&message)?;

@@ -1,11 +1,11 @@
 -- What a message tells: its serial, region and text.
-use Rattle.std.proofs.Common.{◌≡◌, ℕ, ◌+◌, ◌-◌, ◌*◌, ◌/◌, ◌%◌, ◌<◌, ◌≤◌, Bool, true, false, ◌&&◌, leb, List, [], ◌∷◌, ◌++◌, length, take, replicate, sym, refl, ap, ◌∙◌, arith, length-append, rules}
+use Rattle.std.proofs.Common.{◌≡◌, ℕ, ◌-◌, ◌≤◌, true, List, ◌++◌, length, take, replicate, sym, refl, ap, ◌∙◌, arith, length-append, rules}
 use lib.ListN.{length-replicate}
 use Rattle.std.proofs.lemmas.List.{take_at, append_cancel_left, append_cancel_right}
 use Rattle.std.proofs.lemmas.Bool.Decides.{nat_tests}
 use Rattle.kinds.specs.Faults.{padded}
 use Rattle.kinds.specs.Rules.{Model, Laws}
-use Rattle.lines.specs.Message.{le32, header, text_bytes, message, text_fits, MessageLaws}
+use Rattle.lines.specs.Message.{header, text_bytes, message, text_fits, MessageLaws}
 
 -- Lists whose first parts are as long as each other are equal part by part.
 split_front : (a b c d : List ℕ) → length a ≡ length c → a ++ b ≡ c ++ d → (a ≡ c) × (b ≡ d)

@@ -3,7 +3,6 @@ use Rattle.std.specs.Prelude.{ℕ, cond, List, Ok, Err, Result, nat_le}
 use Rattle.refusals.specs.declared.Part.TheVariants as part
 use Rattle.refusals.specs.declared.Refusal.{Refusal}
 use Rattle.refusals.specs.Words.{refusal}
-use Rattle.kinds.specs.declared.fault.KindFault.{KindFault}
 use Rattle.kinds.specs.declared.fault.KindFault.TheVariants.{TooWide}
 use Rattle.kinds.specs.Faults.{kind_refusal}
 use Rattle.kinds.specs.Rules.{Model}

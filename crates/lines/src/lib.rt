@@ -1,4 +1,6 @@
 //! The message that goes to the service, and the lines that carry it.
+#![tactic(auto)]
+
 mod fault;
 mod line;
 mod messages;

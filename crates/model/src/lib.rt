@@ -1,6 +1,8 @@
 //! The life of a box: what has to happen at each call after the calls before it, and the laws of every life. A box is a
 //! register, open queries and a line. All is said of the history of calls and answers, and nothing of a program's state.
 //! The functions state laws; they compute nothing.
+#![tactic(auto)]
+
 ghost use Rattle.std.specs.Prelude.{◌≡◌, ℕ, ◌+◌, ◌-◌, ◌*◌, ◌<◌, List, ◌∷◌, Some, None};
 ghost use Rattle.buckets.specs.Rows.{In};
 ghost use Rattle.model.specs.Events.{Call, Query, Event, History};

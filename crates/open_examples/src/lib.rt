@@ -1,4 +1,6 @@
 //! The open queries in use, from their contracts alone.
+#![tactic(auto)]
+
 ghost use Rattle.std.specs.Prelude.{◌≡◌, ℕ, ◌+◌, false, is_ok};
 ghost use Rattle.open_queries.specs.View.{status_of, standing, next_of};
 ghost use Rattle.open_queries.specs.Calls.{at_serial, accepted, given_up};

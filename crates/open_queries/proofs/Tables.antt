@@ -1,12 +1,12 @@
 -- A table in which one entry changes: what it then says of each serial, and how many entries are in use.
-use Rattle.std.proofs.Common.{◌≡◌, ℕ, zero, suc, ◌+◌, ◌-◌, ◌<◌, ◌≤◌, Bool, true, false, cond, eqb, ltb, ◌⊎◌, List, [], ◌∷◌, ◌++◌, length, get_or, take, set, Some, None, Option, sym, refl, ap, ◌∙◌, subst, inl, inr, le_of_suc-le-suc, arith, rules}
-use Rattle.std.proofs.lemmas.Bool.{cases_Bool, cases_eq}
+use Rattle.std.proofs.Common.{◌≡◌, ℕ, zero, suc, ◌+◌, ◌<◌, ◌≤◌, true, false, cond, eqb, List, [], ◌∷◌, ◌++◌, length, get_or, take, set, Some, None, sym, refl, ap, ◌∙◌, subst, inl, inr, le_of_suc-le-suc, arith}
+use Rattle.std.proofs.lemmas.Bool.{cases_eq}
 use Rattle.std.proofs.lemmas.List.{take_more, get_or-set_same, length-set}
 use Rattle.open_queries.specs.declared.entry.Stage.{Stage}
 use Rattle.open_queries.specs.declared.entry.Stage.TheVariants.{Free, Open, InHand}
 use Rattle.open_queries.specs.declared.entry.Entry.{Entry}
-use Rattle.open_queries.specs.Table.{Status, absent, open_by, in_hand_by, staged, used, entry_status, has, or_else, table_status, holders, in_use, free_entry}
-use Rattle.open_queries.specs.Marks.{in_stage, asker, marked, mark_answer, weight}
+use Rattle.open_queries.specs.Table.{Status, absent, open_by, staged, used, entry_status, has, or_else, table_status, holders, in_use, free_entry}
+use Rattle.open_queries.specs.Marks.{in_stage, marked, mark_answer, weight}
 
 -- one entry changes: the counts follow
 pub holders_set : (es : List Entry) (i : ℕ) (e : Entry) (s : ℕ) → i < length es → holders (set es i e) s + has (get_or es i free_entry) s ≡ holders es s + has e s

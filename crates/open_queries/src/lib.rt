@@ -1,4 +1,6 @@
 //! The open queries: their serials, which set put each, and the token of one that is in hand.
+#![tactic(auto)]
+
 mod entry;
 mod fault;
 mod handover;

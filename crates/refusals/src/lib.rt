@@ -1,4 +1,6 @@
 //! What every refusal has: a number, and the part of the device that gave it.
+#![tactic(auto)]
+
 ghost use Rattle.std.specs.Prelude.{◌≡◌, Some};
 ghost use Rattle.refusals.specs.declared.Refusal.{Refusal};
 ghost use Rattle.refusals.specs.Words.{word, refusal_text};

@@ -1,4 +1,6 @@
 //! The register: who is present where, and the buckets of those present.
+#![tactic(auto)]
+
 mod bucket;
 mod fault;
 mod register;

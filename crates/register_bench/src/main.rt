@@ -1,5 +1,7 @@
 //! Runs one kind of call on a register over the plane many times. With the arguments TASK SETS TURNS it prints a checksum of the
 //! answers and the nanoseconds that the turns took; with none, the checksums of a short run of each task.
+#![tactic(auto)]
+
 use anyhow::anyhow;
 use kinds::PlanePlace;
 use register::{Register, RegisterFault, unused_slot};

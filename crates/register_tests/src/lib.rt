@@ -1,4 +1,6 @@
 //! The register in use, at the three kinds.
+#![tactic(auto)]
+
 #[cfg(test)]
 mod tests {
     use buckets::Ends;

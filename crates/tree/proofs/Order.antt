@@ -6,7 +6,6 @@ use Rattle.kinds.specs.Rules.{Model, Admitted}
 use Rattle.buckets.specs.Rows.{Entry, entry, In, here, later, ahead, inserted, Sorted, AllAdmitted, AheadLaws}
 use Rattle.tree.specs.Tree.{Tree, leaf, node, row_of, times}
 use Rattle.tree.specs.Shapes.{evened, grown}
-use Rattle.tree.specs.Contracted.{one}
 use Rattle.tree.specs.Rows.{often}
 use Rattle.tree.proofs.Balance.{same_even}
 

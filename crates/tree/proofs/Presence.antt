@@ -1,5 +1,5 @@
 -- Who is present where.
-use Rattle.std.proofs.Common.{◌≡◌, ℕ, ◌<◌, ◌≤◌, min, Bool, true, false, cond, ◌&&◌, eqb, ltb, List, [], ◌∷◌, ◌++◌, length, set, Some, None, Option, sym, refl, ap, ◌∙◌, subst, arith}
+use Rattle.std.proofs.Common.{◌≡◌, ℕ, ◌<◌, ◌≤◌, min, Bool, true, false, cond, ◌&&◌, eqb, ltb, List, [], ◌∷◌, ◌++◌, length, Some, None, Option, sym, refl, ap, ◌∙◌, subst, arith}
 use native.Mathlib.Decide.{ℕ_discrete, dec_lt}
 use Rattle.std.proofs.lemmas.Bool.Decides.{nat_tests}
 use Rattle.std.specs.List.{slice_get}
@@ -8,7 +8,7 @@ use Rattle.tree.specs.declared.node.Node.{Node}
 use Rattle.tree.specs.Slots.{at, count_of, held_place}
 use Rattle.tree.specs.Tree.{Tree, leaf, node, row_of, times, stored, Holds}
 use Rattle.tree.specs.Contracted.{one, TreeAt}
-use Rattle.tree.specs.Rows.{often, without, find}
+use Rattle.tree.specs.Rows.{often, find}
 use Rattle.buckets.specs.Rows.{Entry, entry, In, later}
 use Rattle.tree.specs.Whole.{in_use, place_in, mark, tree_in, row_in, ShapeAt}
 use Rattle.tree.proofs.Held.{at_nth}

@@ -13,7 +13,7 @@ use Rattle.tree.proofs.Writes.{Opened, opened, done_done, still}
 use Rattle.tree.proofs.Balance.{low, same_even}
 use Rattle.tree.proofs.Children.{fewer_left, fewer_right, left_replaced, right_replaced}
 use Rattle.tree.proofs.Rebalancing.{done_at}
-use Rattle.tree.proofs.Shrinking.{Smaller, smaller, headed}
+use Rattle.tree.proofs.Shrinking.{Smaller, headed}
 
 module _ {P R : Type 0} (m : Model P R) where
   held_open : {ns : List (Node P R)} {root to-left : ℕ} (t : Tree P R) → TreeAt ns root t → 0 < root

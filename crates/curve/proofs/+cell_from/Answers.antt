@@ -15,8 +15,8 @@ outer-u-requires t c = (
   ),
 )
 
-pub cell-from-requires : goal.cell-from-requires
-cell-from-requires t c = (
+pub cell_from-requires : goal.cell_from-requires
+cell_from-requires t c = (
   omega arith,
   (
     omega arith,
@@ -26,5 +26,5 @@ cell-from-requires t c = (
 
 pub returns : goal.returns
 returns t c =
-    cell_made _ _ _ _ _ (cell c.outer-u.result.0 c.outer-u.result.1) c.cell-from.result c.if-m-eq0.false
-    c.side.ensures c.outer-u.ensures.0 c.cell-from.ensures
+    cell_made _ _ _ _ _ (cell c.outer-u.result.0 c.outer-u.result.1) c.cell_from.result c.if-m-eq0.false
+    c.side.ensures c.outer-u.ensures.0 c.cell_from.ensures

@@ -1,6 +1,5 @@
-use Rattle.std.proofs.Common.{◌≡◌, refl, arith}
+use Rattle.std.proofs.Common.{arith}
 use Rattle.curve.specs.Hilbert.{cell}
-use Rattle.curve.proofs.Quarters.{same_cell}
 use Rattle.curve.proofs.Orders.{quarter_fits, key_made, cells_most, quarter_most}
 use Rattle.curve.proofs.+key_at.Goals as goal
 
@@ -12,8 +11,8 @@ pub digit-requires : goal.digit-requires
 digit-requires t c =
     quarter_fits _ _ (cell c.args.x c.args.y) c.if-m-eq0.false c.requires.0 c.requires.1 c.side-s.ensures
 
-pub overflow-mul-result-2 : goal.overflow-mul-result-2
-overflow-mul-result-2 t c =
+pub overflow_mul-result-2 : goal.overflow_mul-result-2
+overflow_mul-result-2 t c =
     let q = quarter_fits _ _ (cell c.args.x c.args.y) c.if-m-eq0.false c.requires.0 c.requires.1 c.side-s.ensures in
     omega (arith, quarter_most c.side-s.result c.digit.result q.1.0 c.digit.ensures.1)
 
@@ -22,8 +21,8 @@ returns t c =
     let k =
     key_made _ _ _ _ (cell c.args.x c.args.y) (cell c.inner-u.result.0 c.inner-u.result.1)
     c.if-m-eq0.false c.requires.1 c.side-s.ensures c.digit.ensures.0 c.inner-u.ensures.0
-    c.key-at.ensures.value in
+    c.key_at.ensures.value in
     record { value = k.value; below = k.below; back = k.back }
 
-pub overflow-add-result : goal.overflow-add-result
-overflow-add-result t c = omega (arith, (returns t c).below, cells_most c.args.m c.requires.0)
+pub overflow_add-result : goal.overflow_add-result
+overflow_add-result t c = omega (arith, (returns t c).below, cells_most c.args.m c.requires.0)

@@ -1,4 +1,4 @@
 use Rattle.curve.proofs.+key_at.Given as goal
 
-abbrev pub decreases-key-at : goal.decreases-key-at
-decreases-key-at l = l.m
+abbrev pub decreases-key_at : goal.decreases-key_at
+decreases-key_at l = l.m

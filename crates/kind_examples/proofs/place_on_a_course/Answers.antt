@@ -1,4 +1,3 @@
-use Rattle.std.proofs.Common.{rules}
 use Rattle.kind_examples.proofs.place_on_a_course.Goals as goal
 
 pub returns : goal.returns

@@ -5,9 +5,9 @@ use Rattle.lines.specs.Meaning.{take_answer}
 use Rattle.line_examples.proofs.pass.Goals as goal
 
 -- After a message was sent, a take into 64 bytes is not refused.
-not-empty : (w v : List (List ℕ)) (m space : List ℕ) (e : LineFault) → v ≡ w ++ (m ∷ []) → length space ≡ 64
+not_empty : (w v : List (List ℕ)) (m space : List ℕ) (e : LineFault) → v ≡ w ++ (m ∷ []) → length space ≡ 64
     → Err e ≡ take_answer v space → ⊥
-not-empty w v m space e p l h =
+not_empty w v m space e p l h =
     let n : length v ≡ length w + 1 = ap length p ∙ length-append w (m ∷ []) in
     let a : eqb (length space) 64 ≡ true = grind (arith, nat_tests) in
     let b : eqb (length v) 0 ≡ false = grind (arith, nat_tests) in
@@ -15,7 +15,7 @@ not-empty w v m space e p l h =
     let z : ◌≡◌ {A = ℕ} 0 1 = cc in
     omega arith
 
-pub returns-in-err-take : goal.returns-in-err-take
-returns-in-err-take g c =
+pub returns-in_err-take : goal.returns-in_err-take
+returns-in_err-take g c =
     absurd
-    (not-empty _ _ _ _ _ c.in-ok-send.ensures.waits (omega arith) c.in-err-take.ensures.answer)
+    (not_empty _ _ _ _ _ c.in_ok-send.ensures.waits (omega arith) c.in_err-take.ensures.answer)

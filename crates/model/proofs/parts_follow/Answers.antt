@@ -6,5 +6,5 @@ returns g c =
     record {
       after = follows;
       answers = λ box h l.
-          part_answers box h l c.row-laws.ensures c.bucket-laws.ensures c.member-laws.ensures c.region-laws.ensures;
+          part_answers box h l c.row_laws.ensures c.bucket_laws.ensures c.member_laws.ensures c.region_laws.ensures;
     }

@@ -8,7 +8,7 @@ returns g c = record {
       let k = queries_kept box h l in
       record {
         balance = k.balance;
-        own_serials = k.own-serials;
+        own_serials = k.own_serials;
         ended = λ s. omega (arith, k.ended s);
         named = k.named;
       };

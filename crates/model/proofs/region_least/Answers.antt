@@ -5,11 +5,11 @@ use Rattle.model.proofs.region_least.Goals as goal
 
 pub returns : goal.returns
 returns g c =
-    let rows = c.row-laws.ensures in
+    let rows = c.row_laws.ensures in
     record {
       query = λ box h e q l z.
           let r = subst (λ o. SendsLeast box h e o) z
-          (sends_least box rows c.bucket-laws.ensures c.member-laws.ensures c.region-laws.ensures e h l) in
+          (sends_least box rows c.bucket_laws.ensures c.member_laws.ensures c.region_laws.ensures e h l) in
           record {
             present = r.present;
             one_each = r.one_each;

@@ -7,23 +7,23 @@ returns-then-root-eq0 g t c =
     λ u y. end_leaf g.P.PlaceKind.model c.args.place u c.if-root-eq0.true y
     (c.plant.ensures _ _ (leaf_two g.P.PlaceKind.model c.args.place y))
 
-pub place-at-here-requires : goal.place-at-here-requires
-place-at-here-requires g t c = grow_root g.P.PlaceKind.model c.args.place c.requires.1 c.if-root-eq0.false
+pub place_at-here-requires : goal.place_at-here-requires
+place_at-here-requires g t c = grow_root g.P.PlaceKind.model c.args.place c.requires.1 c.if-root-eq0.false
 
-pub left-at-left-requires : goal.left-at-left-requires
-left-at-left-requires g t c = grow_root g.P.PlaceKind.model c.args.place c.requires.1 c.if-root-eq0.false
+pub left_at-left-requires : goal.left_at-left-requires
+left_at-left-requires g t c = grow_root g.P.PlaceKind.model c.args.place c.requires.1 c.if-root-eq0.false
 
-pub right-at-right-requires : goal.right-at-right-requires
-right-at-right-requires g t c = grow_root g.P.PlaceKind.model c.args.place c.requires.1 c.if-root-eq0.false
+pub right_at-right-requires : goal.right_at-right-requires
+right_at-right-requires g t c = grow_root g.P.PlaceKind.model c.args.place c.requires.1 c.if-root-eq0.false
 
 pub insert-longer-requires : goal.insert-longer-requires
 insert-longer-requires g t c κs within =
     let m = g.P.PlaceKind.model in
     let p = c.args.place in
-    let b = c.stands-ahead-goes-left.result in
+    let b = c.stands_ahead-goes_left.result in
     let y = c.requires.1 in
-    let o = grow_open m p y c.if-root-eq0.false c.place-at-here.ensures c.left-at-left.ensures
-    c.right-at-right.ensures in (
+    let o = grow_open m p y c.if-root-eq0.false c.place_at-here.ensures c.left_at-left.ensures
+    c.right_at-right.ensures in (
       fewer_child m p y o b c.choose-child.ensures _ c.decreases,
       (within.0, (within.1, (_, grow_child m p y o b c.choose-child.ensures))),
     )
@@ -32,26 +32,26 @@ pub rebalance-requires : goal.rebalance-requires
 rebalance-requires g t c =
     let m = g.P.PlaceKind.model in
     let p = c.args.place in
-    let b = c.stands-ahead-goes-left.result in
+    let b = c.stands_ahead-goes_left.result in
     let y = c.requires.1 in
-    let o = grow_open m p y c.if-root-eq0.false c.place-at-here.ensures c.left-at-left.ensures
-    c.right-at-right.ensures in
+    let o = grow_open m p y c.if-root-eq0.false c.place_at-here.ensures c.left_at-left.ensures
+    c.right_at-right.ensures in
     let f = c.insert-longer.ensures _ (grow_child m p y o b c.choose-child.ensures) in (
       _,
       _,
-      after_child m p y o b _ c.insert-longer.result c.choose-new-left.ensures
-          c.choose-new-right.ensures (omega arith) f,
+      after_child m p y o b _ c.insert-longer.result c.choose-new_left.ensures
+          c.choose-new_right.ensures (omega arith) f,
     )
 
 pub returns : goal.returns
 returns g t c = λ u y.
     let m = g.P.PlaceKind.model in
     let p = c.args.place in
-    let b = c.stands-ahead-goes-left.result in
-    let o = grow_open m p y c.if-root-eq0.false c.place-at-here.ensures c.left-at-left.ensures
-    c.right-at-right.ensures in
+    let b = c.stands_ahead-goes_left.result in
+    let o = grow_open m p y c.if-root-eq0.false c.place_at-here.ensures c.left_at-left.ensures
+    c.right_at-right.ensures in
     let f = c.insert-longer.ensures _ (grow_child m p y o b c.choose-child.ensures) in
-    end_child m p y o b (sym c.stands-ahead-goes-left.ensures) f
+    end_child m p y o b (sym c.stands_ahead-goes_left.ensures) f
     (c.rebalance.ensures _ _
-    (after_child m p y o b _ c.insert-longer.result c.choose-new-left.ensures c.choose-new-right.ensures
+    (after_child m p y o b _ c.insert-longer.result c.choose-new_left.ensures c.choose-new_right.ensures
     (omega arith) f))

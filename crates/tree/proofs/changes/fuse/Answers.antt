@@ -2,28 +2,28 @@ use Rattle.std.proofs.Common.{◌<◌, arith}
 use Rattle.tree.proofs.Removal.{head_in, fuse_even, fuse_end}
 use Rattle.tree.proofs.changes.fuse.Goals as goal
 
-pub place-at-place-requires : goal.place-at-place-requires
-place-at-place-requires g c =
+pub place_at-place-requires : goal.place_at-place-requires
+place_at-place-requires g c =
     let y = c.requires.2 in
-    head_in g.P.PlaceKind.model c.requires.1 y.tree-r (omega arith) c.first-of-first.result
-    (c.first-of-first.ensures _ y.tree-r)
+    head_in g.P.PlaceKind.model c.requires.1 y.tree_r (omega arith) c.first_of-first.result
+    (c.first_of-first.ensures _ y.tree_r)
 
 pub rebalance-requires : goal.rebalance-requires
 rebalance-requires g c =
     let y = c.requires.2 in (
       _,
       _,
-      fuse_even g.P.PlaceKind.model c.requires.0 c.requires.1 y (omega arith) c.first-of-first.result
-          (c.first-of-first.ensures _ y.tree-r) _ c.pull-first-rest.result (omega arith)
-          (c.pull-first-rest.ensures _ y.tree-r),
+      fuse_even g.P.PlaceKind.model c.requires.0 c.requires.1 y (omega arith) c.first_of-first.result
+          (c.first_of-first.ensures _ y.tree_r) _ c.pull_first-rest.result (omega arith)
+          (c.pull_first-rest.ensures _ y.tree_r),
     )
 
 pub returns : goal.returns
 returns g c = λ l r y.
     let m = g.P.PlaceKind.model in
     let pos : 0 < c.args.right = omega arith in
-    let is = c.first-of-first.ensures _ y.tree-r in
-    let f = c.pull-first-rest.ensures _ y.tree-r in
-    fuse_end m l r y pos c.first-of-first.result c.place-at-place.result is c.place-at-place.ensures f
+    let is = c.first_of-first.ensures _ y.tree_r in
+    let f = c.pull_first-rest.ensures _ y.tree_r in
+    fuse_end m l r y pos c.first_of-first.result c.place_at-place.result is c.place_at-place.ensures f
     (c.rebalance.ensures _ _
-    (fuse_even m l r y pos c.first-of-first.result is _ c.pull-first-rest.result (omega arith) f))
+    (fuse_even m l r y pos c.first_of-first.result is _ c.pull_first-rest.result (omega arith) f))

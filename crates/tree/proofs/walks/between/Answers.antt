@@ -13,36 +13,36 @@ loop-keep-init g c =
           c.requires.range.1;
     }
 
-pub place-at-here-requires : goal.place-at-here-requires
-place-at-here-requires g c =
+pub place_at-here-requires : goal.place_at-here-requires
+place_at-here-requires g c =
     let m = g.P.PlaceKind.model in
     let w = c.loop-keep.invariant in
     let laws = g.met.P.PlaceKind.lawful in
-    tree_root m (w.way _ c.requires.0.1).held (run_root m laws w c.requires.0.1)
+    tree_root m (w.way _ c.requires.treed.1).held (run_root m laws w c.requires.treed.1)
 
-pub left-at-left-requires : goal.left-at-left-requires
-left-at-left-requires g c =
+pub left_at-left-requires : goal.left_at-left-requires
+left_at-left-requires g c =
     let m = g.P.PlaceKind.model in
     let w = c.loop-keep.invariant in
     let laws = g.met.P.PlaceKind.lawful in
-    tree_root m (w.way _ c.requires.0.1).held (run_root m laws w c.requires.0.1)
+    tree_root m (w.way _ c.requires.treed.1).held (run_root m laws w c.requires.treed.1)
 
-pub right-at-right-requires : goal.right-at-right-requires
-right-at-right-requires g c =
+pub right_at-right-requires : goal.right_at-right-requires
+right_at-right-requires g c =
     let m = g.P.PlaceKind.model in
     let w = c.loop-keep.invariant in
     let laws = g.met.P.PlaceKind.lawful in
-    tree_root m (w.way _ c.requires.0.1).held (run_root m laws w c.requires.0.1)
+    tree_root m (w.way _ c.requires.treed.1).held (run_root m laws w c.requires.treed.1)
 
-pub count-at-lower-requires : goal.count-at-lower-requires
-count-at-lower-requires g c =
+pub count_at-lower-requires : goal.count_at-lower-requires
+count_at-lower-requires g c =
     let m = g.P.PlaceKind.model in
     let w = c.loop-keep.invariant in
     let laws = g.met.P.PlaceKind.lawful in
-    let y = c.requires.0.1 in
+    let y = c.requires.treed.1 in
     let v = w.way _ y in
-    let o = tree_open m v.held (run_root m laws w y) c.place-at-here.ensures c.left-at-left.ensures
-    c.right-at-right.ensures in
+    let o = tree_open m v.held (run_root m laws w y) c.place_at-here.ensures c.left_at-left.ensures
+    c.right_at-right.ensures in
     left_in m v.held o
 
 pub loop-keep-smaller-then-keep-lower : goal.loop-keep-smaller-then-keep-lower
@@ -50,10 +50,10 @@ loop-keep-smaller-then-keep-lower g c =
     let m = g.P.PlaceKind.model in
     let w = c.loop-keep.invariant in
     let laws = g.met.P.PlaceKind.lawful in
-    let y = c.requires.0.1 in
+    let y = c.requires.treed.1 in
     let v = w.way _ y in
-    let o = tree_open m v.held (run_root m laws w y) c.place-at-here.ensures c.left-at-left.ensures
-    c.right-at-right.ensures in
+    let o = tree_open m v.held (run_root m laws w y) c.place_at-here.ensures c.left_at-left.ensures
+    c.right_at-right.ensures in
     less_left m v.held o _ refl
 
 pub loop-keep-preserved-then-keep-lower : goal.loop-keep-preserved-then-keep-lower
@@ -62,18 +62,18 @@ loop-keep-preserved-then-keep-lower g c =
     let w = c.loop-keep.invariant in
     let laws = g.met.P.PlaceKind.lawful in
     run_step_left m laws w
-    (λ t y. tree_open m (w.way t y).held (run_root m laws w y) c.place-at-here.ensures
-    c.left-at-left.ensures c.right-at-right.ensures) c.count-at-lower.ensures c.if-keep-lower.true
+    (λ t y. tree_open m (w.way t y).held (run_root m laws w y) c.place_at-here.ensures
+    c.left_at-left.ensures c.right_at-right.ensures) c.count_at-lower.ensures c.if-keep-lower.true
 
 pub loop-keep-smaller : goal.loop-keep-smaller
 loop-keep-smaller g c =
     let m = g.P.PlaceKind.model in
     let w = c.loop-keep.invariant in
     let laws = g.met.P.PlaceKind.lawful in
-    let y = c.requires.0.1 in
+    let y = c.requires.treed.1 in
     let v = w.way _ y in
-    let o = tree_open m v.held (run_root m laws w y) c.place-at-here.ensures c.left-at-left.ensures
-    c.right-at-right.ensures in
+    let o = tree_open m v.held (run_root m laws w y) c.place_at-here.ensures c.left_at-left.ensures
+    c.right_at-right.ensures in
     less_right m v.held o _ refl
 
 pub loop-keep-preserved : goal.loop-keep-preserved
@@ -82,8 +82,8 @@ loop-keep-preserved g c =
     let w = c.loop-keep.invariant in
     let laws = g.met.P.PlaceKind.lawful in
     run_step_right m laws w
-    (λ t y. tree_open m (w.way t y).held (run_root m laws w y) c.place-at-here.ensures
-    c.left-at-left.ensures c.right-at-right.ensures) c.count-at-lower.ensures c.requires.0.1
+    (λ t y. tree_open m (w.way t y).held (run_root m laws w y) c.place_at-here.ensures
+    c.left_at-left.ensures c.right_at-right.ensures) c.count_at-lower.ensures c.requires.treed.1
     c.if-skip-lower.true
 
 pub suffix-low-requires : goal.suffix-low-requires
@@ -91,10 +91,10 @@ suffix-low-requires g c =
     let m = g.P.PlaceKind.model in
     let w = c.loop-keep.invariant in
     let laws = g.met.P.PlaceKind.lawful in
-    let y = c.requires.0.1 in
+    let y = c.requires.treed.1 in
     let v = w.way _ y in
-    let o = tree_open m v.held (run_root m laws w y) c.place-at-here.ensures c.left-at-left.ensures
-    c.right-at-right.ensures in
+    let o = tree_open m v.held (run_root m laws w y) c.place_at-here.ensures c.left_at-left.ensures
+    c.right_at-right.ensures in
     (o.d, tree_left m v.held o)
 
 pub prefix-requires : goal.prefix-requires
@@ -102,10 +102,10 @@ prefix-requires g c =
     let m = g.P.PlaceKind.model in
     let w = c.loop-keep.invariant in
     let laws = g.met.P.PlaceKind.lawful in
-    let y = c.requires.0.1 in
+    let y = c.requires.treed.1 in
     let v = w.way _ y in
-    let o = tree_open m v.held (run_root m laws w y) c.place-at-here.ensures c.left-at-left.ensures
-    c.right-at-right.ensures in
+    let o = tree_open m v.held (run_root m laws w y) c.place_at-here.ensures c.left_at-left.ensures
+    c.right_at-right.ensures in
     (o.e, tree_right m v.held o)
 
 pub returns-else-skip-lower : goal.returns-else-skip-lower
@@ -114,10 +114,10 @@ returns-else-skip-lower g c = λ t y h e es parts.
     let w = c.loop-keep.invariant in
     let laws = g.met.P.PlaceKind.lawful in
     let v = w.way t y in
-    let o = tree_open m v.held (run_root m laws w y) c.place-at-here.ensures c.left-at-left.ensures
-    c.right-at-right.ensures in
-    between_mid m v.held o laws c.count-at-lower.result c.loop-keep.skip c.loop-keep.keep
-    c.region.result c.suffix-low.result _ e es c.count-at-lower.ensures c.if-skip-lower.false
+    let o = tree_open m v.held (run_root m laws w y) c.place_at-here.ensures c.left_at-left.ensures
+    c.right_at-right.ensures in
+    between_mid m v.held o laws c.count_at-lower.result c.loop-keep.skip c.loop-keep.keep
+    c.region.result c.suffix-low.result _ e es c.count_at-lower.ensures c.if-skip-lower.false
     (omega (arith, c.if-keep-lower.false)) c.region.ensures
     (c.suffix-low.ensures _ (tree_left m v.held o) (joined_left m v.held o (v.joined h)))
     (c.prefix.ensures _ (tree_right m v.held o) (joined_right m v.held o (v.joined h)))

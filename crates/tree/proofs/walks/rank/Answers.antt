@@ -7,91 +7,91 @@ use Rattle.tree.proofs.walks.rank.Goals as goal
 pub loop-slot-init : goal.loop-slot-init
 loop-slot-init g c = λ t y. record { rest = t; held = y; same = omega arith; few = omega arith }
 
-pub place-at-here-requires : goal.place-at-here-requires
-place-at-here-requires g c = tree_root g.P.PlaceKind.model (c.loop-slot.invariant _ c.requires.1).held (omega arith)
+pub place_at-here-requires : goal.place_at-here-requires
+place_at-here-requires g c = tree_root g.P.PlaceKind.model (c.loop-slot.invariant _ c.requires.1).held (omega arith)
 
-pub left-at-left-requires : goal.left-at-left-requires
-left-at-left-requires g c = tree_root g.P.PlaceKind.model (c.loop-slot.invariant _ c.requires.1).held (omega arith)
+pub left_at-left-requires : goal.left_at-left-requires
+left_at-left-requires g c = tree_root g.P.PlaceKind.model (c.loop-slot.invariant _ c.requires.1).held (omega arith)
 
-pub right-at-right-requires : goal.right-at-right-requires
-right-at-right-requires g c = tree_root g.P.PlaceKind.model (c.loop-slot.invariant _ c.requires.1).held (omega arith)
+pub right_at-right-requires : goal.right_at-right-requires
+right_at-right-requires g c = tree_root g.P.PlaceKind.model (c.loop-slot.invariant _ c.requires.1).held (omega arith)
 
-pub count-at-lower-requires : goal.count-at-lower-requires
-count-at-lower-requires g c =
+pub count_at-lower-requires : goal.count_at-lower-requires
+count_at-lower-requires g c =
     let m = g.P.PlaceKind.model in
     let w = c.loop-slot.invariant _ c.requires.1 in
-    let o = tree_open m w.held (omega arith) c.place-at-here.ensures c.left-at-left.ensures
-    c.right-at-right.ensures in
+    let o = tree_open m w.held (omega arith) c.place_at-here.ensures c.left_at-left.ensures
+    c.right_at-right.ensures in
     left_in m w.held o
 
-pub overflow-add-result : goal.overflow-add-result
-overflow-add-result g c =
+pub overflow_add-result : goal.overflow_add-result
+overflow_add-result g c =
     let m = g.P.PlaceKind.model in
     let w = c.loop-slot.invariant _ c.requires.1 in
-    let o = tree_open m w.held (omega arith) c.place-at-here.ensures c.left-at-left.ensures
-    c.right-at-right.ensures in
-    let few = rank_few m c.args.place c.args.set w o c.count-at-lower.ensures c.requires.1.few in
+    let o = tree_open m w.held (omega arith) c.place_at-here.ensures c.left_at-left.ensures
+    c.right_at-right.ensures in
+    let few = rank_few m c.args.place c.args.set w o c.count_at-lower.ensures c.requires.1.few in
     omega arith
 
 pub returns-then-set-slot : goal.returns-then-set-slot
 returns-then-set-slot g c = λ t y.
     let m = g.P.PlaceKind.model in
     let w = c.loop-slot.invariant t y in
-    let o = tree_open m w.held (omega arith) c.place-at-here.ensures c.left-at-left.ensures
-    c.right-at-right.ensures in
-    rank_found m c.args.place c.args.set w o c.count-at-lower.ensures c.if-set-slot.true
+    let o = tree_open m w.held (omega arith) c.place_at-here.ensures c.left_at-left.ensures
+    c.right_at-right.ensures in
+    rank_found m c.args.place c.args.set w o c.count_at-lower.ensures c.if-set-slot.true
 
-pub loop-slot-smaller-then-stands-ahead : goal.loop-slot-smaller-then-stands-ahead
-loop-slot-smaller-then-stands-ahead g c =
+pub loop-slot-smaller-then-stands_ahead : goal.loop-slot-smaller-then-stands_ahead
+loop-slot-smaller-then-stands_ahead g c =
     let m = g.P.PlaceKind.model in
     let w = c.loop-slot.invariant _ c.requires.1 in
-    let o = tree_open m w.held (omega arith) c.place-at-here.ensures c.left-at-left.ensures
-    c.right-at-right.ensures in
+    let o = tree_open m w.held (omega arith) c.place_at-here.ensures c.left_at-left.ensures
+    c.right_at-right.ensures in
     less_left m w.held o _ refl
 
-pub loop-slot-preserved-then-stands-ahead : goal.loop-slot-preserved-then-stands-ahead
-loop-slot-preserved-then-stands-ahead g c = λ t y.
+pub loop-slot-preserved-then-stands_ahead : goal.loop-slot-preserved-then-stands_ahead
+loop-slot-preserved-then-stands_ahead g c = λ t y.
     let m = g.P.PlaceKind.model in
     let w = c.loop-slot.invariant t y in
-    let o = tree_open m w.held (omega arith) c.place-at-here.ensures c.left-at-left.ensures
-    c.right-at-right.ensures in
-    rank_step_left m c.args.place c.args.set w o c.count-at-lower.ensures c.if-set-slot.false
-    (sym c.if-stands-ahead.ensures)
+    let o = tree_open m w.held (omega arith) c.place_at-here.ensures c.left_at-left.ensures
+    c.right_at-right.ensures in
+    rank_step_left m c.args.place c.args.set w o c.count_at-lower.ensures c.if-set-slot.false
+    (sym c.if-stands_ahead.ensures)
 
-pub overflow-add-before : goal.overflow-add-before
-overflow-add-before g c =
+pub overflow_add-before : goal.overflow_add-before
+overflow_add-before g c =
     let m = g.P.PlaceKind.model in
     let w = c.loop-slot.invariant _ c.requires.1 in
-    let o = tree_open m w.held (omega arith) c.place-at-here.ensures c.left-at-left.ensures
-    c.right-at-right.ensures in
-    let few = rank_few m c.args.place c.args.set w o c.count-at-lower.ensures c.requires.1.few in
+    let o = tree_open m w.held (omega arith) c.place_at-here.ensures c.left_at-left.ensures
+    c.right_at-right.ensures in
+    let few = rank_few m c.args.place c.args.set w o c.count_at-lower.ensures c.requires.1.few in
     omega arith
 
-pub overflow-add-before-else-stands-ahead : goal.overflow-add-before-else-stands-ahead
-overflow-add-before-else-stands-ahead g c =
+pub overflow_add-before-else-stands_ahead : goal.overflow_add-before-else-stands_ahead
+overflow_add-before-else-stands_ahead g c =
     let m = g.P.PlaceKind.model in
     let w = c.loop-slot.invariant _ c.requires.1 in
-    let o = tree_open m w.held (omega arith) c.place-at-here.ensures c.left-at-left.ensures
-    c.right-at-right.ensures in
-    let few = rank_few m c.args.place c.args.set w o c.count-at-lower.ensures c.requires.1.few in
+    let o = tree_open m w.held (omega arith) c.place_at-here.ensures c.left_at-left.ensures
+    c.right_at-right.ensures in
+    let few = rank_few m c.args.place c.args.set w o c.count_at-lower.ensures c.requires.1.few in
     omega arith
 
 pub loop-slot-smaller : goal.loop-slot-smaller
 loop-slot-smaller g c =
     let m = g.P.PlaceKind.model in
     let w = c.loop-slot.invariant _ c.requires.1 in
-    let o = tree_open m w.held (omega arith) c.place-at-here.ensures c.left-at-left.ensures
-    c.right-at-right.ensures in
+    let o = tree_open m w.held (omega arith) c.place_at-here.ensures c.left_at-left.ensures
+    c.right_at-right.ensures in
     less_right m w.held o _ refl
 
 pub loop-slot-preserved : goal.loop-slot-preserved
 loop-slot-preserved g c = λ t y.
     let m = g.P.PlaceKind.model in
     let w = c.loop-slot.invariant t y in
-    let o = tree_open m w.held (omega arith) c.place-at-here.ensures c.left-at-left.ensures
-    c.right-at-right.ensures in
-    rank_step_right m c.args.place c.args.set w o c.count-at-lower.ensures c.if-set-slot.false
-    (sym c.if-stands-ahead.ensures)
+    let o = tree_open m w.held (omega arith) c.place_at-here.ensures c.left_at-left.ensures
+    c.right_at-right.ensures in
+    rank_step_right m c.args.place c.args.set w o c.count_at-lower.ensures c.if-set-slot.false
+    (sym c.if-stands_ahead.ensures)
 
 pub returns : goal.returns
 returns g c =

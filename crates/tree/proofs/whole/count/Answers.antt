@@ -16,8 +16,8 @@ returns-then-root-eq0 g c =
           (shape_of ns c.args.root c.requires.shape);
     }
 
-pub count-at-requires : goal.count-at-requires
-count-at-requires g c =
+pub count_at-requires : goal.count_at-requires
+count_at-requires g c =
     let ns = c.args.nodes.now in
     shape_root ns c.args.root _ (shape_of ns c.args.root c.requires.shape) (omega (arith, c.if-root-eq0.false))
 
@@ -25,8 +25,8 @@ pub returns : goal.returns
 returns g c =
     let ns = c.args.nodes.now in
     let y = shape_of ns c.args.root c.requires.shape in
-    let a = count_is ns c.args.root c.count-at.result (tree_in ns c.args.root) y.root_is
-    c.count-at.ensures y.held in
+    let a = count_is ns c.args.root c.count_at.result (tree_in ns c.args.root) y.root_is
+    c.count_at.ensures y.held in
     let b = shape_few ns c.args.root _ y in
     record {
       many = (a ∙ sym (length_row (tree_in ns c.args.root)), omega arith);

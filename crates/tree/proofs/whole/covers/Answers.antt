@@ -7,8 +7,8 @@ use Rattle.tree.proofs.Shape.{shape_of, shape_few, shape_some}
 use Rattle.tree.proofs.Presence.{shape_tree_at}
 use Rattle.tree.proofs.whole.covers.Goals as goal
 
-pub overflow-add-ends : goal.overflow-add-ends
-overflow-add-ends g c =
+pub overflow_add-ends : goal.overflow_add-ends
+overflow_add-ends g c =
     let ns = c.args.nodes.now in
     let y = shape_of ns c.args.root c.requires.shape in
     let l = length_row (tree_in ns c.args.root) in
@@ -24,7 +24,7 @@ between-requires g c =
     let r = c.requires.range in
     let b = count_is ns c.args.root _ (tree_in ns c.args.root) y.root_is refl y.held in
     record {
-      0 = (_, shape_tree_at m ns c.args.root _ y (shape_some ns c.args.root _ y (omega arith)));
+      treed = (_, shape_tree_at m ns c.args.root _ y (shape_some ns c.args.root _ y (omega arith)));
       range = (omega arith, omega arith);
     }
 

@@ -32,5 +32,5 @@ returns g c =
       shape = shape_made ms res _ w;
       view = view_grown m ns ms root res s p _ y w off;
       others = λ j none. others_kept m ns ms res _ w d j (nowhere ms j none);
-      order = order_grown m c.ahead-laws.ensures ns ms root res s p _ y w off;
+      order = order_grown m c.ahead_laws.ensures ns ms root res s p _ y w off;
     }

@@ -13,8 +13,8 @@ returns-then-root-eq0 g c =
           arith,
     )
 
-pub height-at-requires : goal.height-at-requires
-height-at-requires g c =
+pub height_at-requires : goal.height_at-requires
+height_at-requires g c =
     let ns = c.args.nodes.now in
     shape_root ns c.args.root _ (shape_of ns c.args.root c.requires.shape) (omega (arith, c.if-root-eq0.false))
 
@@ -22,7 +22,7 @@ pub returns : goal.returns
 returns g c =
     let ns = c.args.nodes.now in
     let y = shape_of ns c.args.root c.requires.shape in
-    let a = height_is ns c.args.root c.height-at.result (tree_in ns c.args.root) y.root_is
-    c.height-at.ensures y.held in
+    let a = height_is ns c.args.root c.height_at.result (tree_in ns c.args.root) y.root_is
+    c.height_at.ensures y.held in
     let b = low (tree_in ns c.args.root) y.balanced (shape_few ns c.args.root _ y) in
     (a, omega arith)

@@ -10,8 +10,8 @@ use Rattle.tree.proofs.Presence.{shape_tree_at, nowhere}
 use Rattle.tree.proofs.Leaving.{shape_stays, shape_went, was, others_stay, others_went, found, view_went, order_went}
 use Rattle.tree.proofs.whole.leave.Goals as goal
 
-pub count-at-many-requires : goal.count-at-many-requires
-count-at-many-requires g c =
+pub count_at-many-requires : goal.count_at-many-requires
+count_at-many-requires g c =
     let ns = c.args.nodes.now in
     let y = shape_of ns c.args.root c.requires.shape in
     let r = c.requires.room in
@@ -26,8 +26,8 @@ remove-rest-requires g c =
           (omega arith),
     )
 
-pub count-at-requires : goal.count-at-requires
-count-at-requires g c =
+pub count_at-requires : goal.count_at-requires
+count_at-requires g c =
     let m = g.P.PlaceKind.model in
     let ns = c.args.nodes.now in
     let r = c.requires.room in
@@ -36,8 +36,8 @@ count-at-requires g c =
     (shape_tree_at m ns c.args.root _ (shape_of ns c.args.root c.requires.shape) pos) in
     root_in c.remove-rest.new.nodes c.remove-rest.result _ d.root (omega arith) d.held
 
-pub returns-then-count-at-many : goal.returns-then-count-at-many
-returns-then-count-at-many g c =
+pub returns-then-count_at-many : goal.returns-then-count_at-many
+returns-then-count_at-many g c =
     let m = g.P.PlaceKind.model in
     let ns = c.args.nodes.now in
     let ms = c.remove-rest.new.nodes in
@@ -47,20 +47,20 @@ returns-then-count-at-many g c =
     let pos : 0 < length ns = omega arith in
     let y = shape_of ns root c.requires.shape in
     let d = c.remove-rest.ensures _ (shape_tree_at m ns root _ y pos) in
-    let a = count_is ns root c.count-at-many.result (tree_in ns root) y.root_is c.count-at-many.ensures
+    let a = count_is ns root c.count_at-many.result (tree_in ns root) y.root_is c.count_at-many.ensures
     y.held in
-    let b = count_is ms res c.count-at.result (shrunk m c.args.place c.args.set (tree_in ns root)) d.root
-    c.count-at.ensures d.held in
+    let b = count_is ms res c.count_at.result (shrunk m c.args.place c.args.set (tree_in ns root)) d.root
+    c.count_at.ensures d.held in
     let same : size (shrunk m c.args.place c.args.set (tree_in ns root)) ≡ size (tree_in ns root) = sym b
-    ∙ c.if-count-at-many.true ∙ a in
+    ∙ c.if-count_at-many.true ∙ a in
     let z = shape_stays m c.args.set c.args.place y c.requires.there d same in
     record {
       shape = shape_made ms res _ z;
-      view = λ ord. absurd (found m c.args.set c.args.place y c.requires.there d c.ahead-laws.ensures ord
+      view = λ ord. absurd (found m c.args.set c.args.place y c.requires.there d c.ahead_laws.ensures ord
           same);
       others = λ j none. others_stay m c.args.set c.args.place y c.requires.there d j (nowhere ns j none);
       order = λ ord. absurd
-          (found m c.args.set c.args.place y c.requires.there d c.ahead-laws.ensures ord same);
+          (found m c.args.set c.args.place y c.requires.there d c.ahead_laws.ensures ord same);
     }
 
 pub returns : goal.returns
@@ -75,21 +75,21 @@ returns g c =
     let pos : 0 < length ns = omega arith in
     let y = shape_of ns root c.requires.shape in
     let d = c.remove-rest.ensures _ (shape_tree_at m ns root _ y pos) in
-    let a = count_is ns root c.count-at-many.result (tree_in ns root) y.root_is c.count-at-many.ensures
+    let a = count_is ns root c.count_at-many.result (tree_in ns root) y.root_is c.count_at-many.ensures
     y.held in
-    let b = count_is ms res c.count-at.result (shrunk m c.args.place c.args.set (tree_in ns root)) d.root
-    c.count-at.ensures d.held in
+    let b = count_is ms res c.count_at.result (shrunk m c.args.place c.args.set (tree_in ns root)) d.root
+    c.count_at.ensures d.held in
     let ne : size (shrunk m c.args.place c.args.set (tree_in ns root)) ≡ size (tree_in ns root) → ⊥ = λ e.
-    c.if-count-at-many.false (b ∙ e ∙ sym a) in
+    c.if-count_at-many.false (b ∙ e ∙ sym a) in
     let w = was m c.args.set c.args.place y c.requires.there d ne in
     let is = c.clear.ensures w.0 w.1 in
     let z = subst (λ n. ShapeAt n res (shrunk m c.args.place c.args.set (tree_in ns root))) (sym is)
     (shape_went m c.args.set c.args.place y c.requires.there d ne) in
     record {
       shape = shape_made end res _ z;
-      view = λ ord. view_went m c.args.set c.args.place y c.requires.there d c.ahead-laws.ensures ord end z;
+      view = λ ord. view_went m c.args.set c.args.place y c.requires.there d c.ahead_laws.ensures ord end z;
       others = λ j none. ap (λ n. slice_get n j) is
           ∙ others_went m c.args.set c.args.place y c.requires.there d (idle w.0) j (nowhere ns j none);
-      order = λ ord. order_went m c.args.set c.args.place y c.requires.there d c.ahead-laws.ensures ord end
+      order = λ ord. order_went m c.args.set c.args.place y c.requires.there d c.ahead_laws.ensures ord end
           z;
     }

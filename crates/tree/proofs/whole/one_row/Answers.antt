@@ -6,4 +6,4 @@ pub returns : goal.returns
 returns g c = λ o.
     let ns = c.args.nodes.now in
     the_row g.P.PlaceKind.model ns c.args.root _ (shape_of ns c.args.root c.requires.shape) o
-    c.row-laws.ensures
+    c.row_laws.ensures

@@ -25,6 +25,6 @@ returns g c =
     let a = ranked_low m c.args.place c.args.set (tree_in ns c.args.root) in
     record {
       low = omega (arith, length_row (tree_in ns c.args.root));
-      rank = λ o. is ∙ ranked_is m c.ahead-laws.ensures ns c.args.root c.args.set c.args.place _ y
+      rank = λ o. is ∙ ranked_is m c.ahead_laws.ensures ns c.args.root c.args.set c.args.place _ y
           c.requires.there o;
     }

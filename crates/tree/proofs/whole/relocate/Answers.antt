@@ -4,8 +4,8 @@ use Rattle.tree.specs.Whole.{place_in}
 use Rattle.tree.proofs.Presence.{gone_count, cond_cond, still_absent, uncounted}
 use Rattle.tree.proofs.whole.relocate.Goals as goal
 
-pub returns-then-count-at-gt0 : goal.returns-then-count-at-gt0
-returns-then-count-at-gt0 g c =
+pub returns-then-count_at-gt0 : goal.returns-then-count_at-gt0
+returns-then-count_at-gt0 g c =
     let r = c.requires.room in
     let s = c.args.set in
     let e = c.leave-rest.ensures in
@@ -13,10 +13,10 @@ returns-then-count-at-gt0 g c =
     record {
       shape = e.shape;
       view = λ o. absurd (gone_count c.leave-rest.new.nodes s (place_in ns s) (e.view o s) (omega arith)
-          (omega (arith, c.count-at.ensures, c.if-count-at-gt0.true)));
+          (omega (arith, c.count_at.ensures, c.if-count_at-gt0.true)));
       others = e.others;
       order = λ o. absurd (gone_count c.leave-rest.new.nodes s (place_in ns s) (e.view o s) (omega arith)
-          (omega (arith, c.count-at.ensures, c.if-count-at-gt0.true)));
+          (omega (arith, c.count_at.ensures, c.if-count_at-gt0.true)));
     }
 
 pub enter-requires : goal.enter-requires
@@ -26,7 +26,7 @@ enter-requires g c =
       shape = c.leave-rest.ensures.shape;
       room = (r.0, omega arith);
       absent = uncounted c.leave-rest.new.nodes c.args.set
-          (omega (arith, c.count-at.ensures, c.if-count-at-gt0.false));
+          (omega (arith, c.count_at.ensures, c.if-count_at-gt0.false));
     }
 
 pub returns : goal.returns

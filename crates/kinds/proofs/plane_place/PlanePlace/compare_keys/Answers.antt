@@ -1,5 +1,4 @@
-use Rattle.std.proofs.Common.{◌≡◌, ℕ, refl, ap, ◌∙◌}
-use Rattle.kinds.specs.Ranks.{ranked}
+use Rattle.std.proofs.Common.{◌≡◌, ℕ, ap, ◌∙◌}
 use Rattle.kinds.proofs.plane_place.PlanePlace.compare_keys.Goals as goal
 use Rattle.std.specs.Ordering.{nat_cmp}
 
@@ -8,5 +7,5 @@ same_rank a b c d p q = ap (λ (x : ℕ). nat_cmp x b) p ∙ ap (λ (x : ℕ). n
 
 pub returns : goal.returns
 returns c =
-    ranked _ _ c.cmp.result c.cmp.ensures
+    c.cmp.ensures
     ∙ same_rank _ _ _ _ c.args.self.now.keyed c.args.other.now.keyed

@@ -3,11 +3,11 @@ use Rattle.register.proofs.register.Register.new.Goals as goal
 
 pub returns : goal.returns
 returns g c =
-    let long : length c.clear-all.new.nodes ≡ length c.args.slots.now = omega arith in
+    let long : length c.clear_all.new.nodes ≡ length c.args.slots.now = omega arith in
     record {
       capacity = omega arith;
       slots = long;
-      empty = c.clear-all.ensures.view;
-      order = c.clear-all.ensures.order.0;
-      untouched = λ j outside. c.clear-all.ensures.others j (λ low. let h = outside low in omega arith);
+      empty = c.clear_all.ensures.view;
+      order = c.clear_all.ensures.order.0;
+      untouched = λ j outside. c.clear_all.ensures.others j (λ low. let h = outside low in omega arith);
     }

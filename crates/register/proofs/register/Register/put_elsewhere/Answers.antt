@@ -2,8 +2,8 @@ use Rattle.std.proofs.Common.{◌≡◌, Some, arith}
 use Rattle.register.proofs.Apart.{empty_shaped, kept_since, after_since}
 use Rattle.register.proofs.register.Register.put_elsewhere.Goals as goal
 
-pub invariant-of-empty : goal.invariant-of-empty
-invariant-of-empty g c = (empty_shaped g.row.P.Denot g.row.P-Region.Denot, tt)
+pub invariant_of-empty : goal.invariant_of-empty
+invariant_of-empty g c = (empty_shaped g.row.P.Denot g.row.P-Region.Denot, tt)
 
 pub returns : goal.returns
 returns g c =
