@@ -1,6 +1,7 @@
 -- When the parts of a box hold what a life says.
 use Rattle.std.specs.Prelude.{◌≡◌, ℕ, List, [], ◌∷◌, None}
 use Rattle.kinds.specs.Rules.{Model}
+use Rattle.kinds.specs.declared.kind.PlaceKind.{Ghosts}
 use Rattle.register.specs.declared.register.Register.{Register}
 use Rattle.register.specs.View.{capacity_of, InOrder}
 use Rattle.register.specs.View as registers
@@ -15,18 +16,18 @@ use Rattle.model.specs.Outcomes.{Life}
 use Rattle.model.specs.Laws.{Point}
 
 -- What a box consists of: its register, its open queries, and what its line means, the messages that wait and its capacity.
-pub record Parts (P R : Type 0) : Type 0 where
-  pub register : Register P R
+pub record Parts (P R : Type 0) (g : Ghosts P R) : Type 0 where
+  pub register : Register P R g
   pub queries : OpenQueries
   pub waits : List (List ℕ)
   pub room : ℕ
 
-abbrev pub parts : {P R : Type 0} → Register P R → OpenQueries → List (List ℕ) → ℕ → Parts P R
-parts g q w c = record { register = g; queries = q; waits = w; room = c }
+abbrev pub parts : {P R : Type 0} {g : Ghosts P R} → Register P R g → OpenQueries → List (List ℕ) → ℕ → Parts P R g
+parts r q w c = record { register = r; queries = q; waits = w; room = c }
 
 -- The history is a life of the box, and the parts hold what it says: who is present where, what has become of each query, how
 -- many stand, the next serial, and what waits. The register's tree is in order.
-pub record Agrees {P R : Type 0} {m : Model P R} (box : Box m) (h : History P) (x : Parts P R) : Type 0 where
+pub record Agrees {P R : Type 0} {g : Ghosts P R} {m : Model P R} (box : Box m) (h : History P) (x : Parts P R g) : Type 0 where
   pub life : Life box h
   pub capacity : capacity_of x.register ≡ box.capacity
   pub order : InOrder m x.register
@@ -39,11 +40,11 @@ pub record Agrees {P R : Type 0} {m : Model P R} (box : Box m) (h : History P) (
 
 -- The event e takes the parts x to y: whatever life x agrees with, y agrees with that life and e, and the three laws hold at that
 -- point. As a box just made agrees with the life of no calls, this is the law of every list of calls.
-abbrev pub Lives : {P R : Type 0} → Model P R → Parts P R → Event P → Parts P R → Type 0
+abbrev pub Lives : {P R : Type 0} {g : Ghosts P R} → Model P R → Parts P R g → Event P → Parts P R g → Type 0
 Lives {P} m x e y = (box : Box m) (h : History P) → Agrees box h x → Agrees box (e ∷ h) y × Point box (e ∷ h)
 
 -- The parts as their constructors make them, with this first serial.
-pub record JustMade {P R : Type 0} (m : Model P R) (first : ℕ) (x : Parts P R) : Type 0 where
+pub record JustMade {P R : Type 0} {g : Ghosts P R} (m : Model P R) (first : ℕ) (x : Parts P R g) : Type 0 where
   pub order : InOrder m x.register
   pub nobody : (n : ℕ) → registers.place_of x.register n ≡ None
   pub no_query : (s : ℕ) → status_of x.queries s ≡ absent
@@ -52,5 +53,5 @@ pub record JustMade {P R : Type 0} (m : Model P R) (first : ℕ) (x : Parts P R)
   pub nothing_waits : x.waits ≡ []
 
 -- The box that such parts are.
-abbrev pub box_of : {P R : Type 0} (m : Model P R) → ℕ → Parts P R → Box m
+abbrev pub box_of : {P R : Type 0} {g : Ghosts P R} (m : Model P R) → ℕ → Parts P R g → Box m
 box_of m first x = record { capacity = capacity_of x.register; first = first; line_capacity = x.room }

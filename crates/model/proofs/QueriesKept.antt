@@ -7,12 +7,11 @@ use Rattle.buckets.specs.Rows.{In}
 use Rattle.open_queries.specs.declared.entry.Stage.{Stage}
 use Rattle.open_queries.specs.declared.entry.Stage.TheVariants.{Free, Open, InHand}
 use Rattle.open_queries.specs.declared.handover.Handover.{Handover}
-use Rattle.open_queries.specs.declared.fault.OpenFault.TheVariants as open_fault
 use Rattle.open_queries.specs.Calls.{first_serial}
 use Rattle.model.specs.Events.{Query, query_by, unspent, Event, entered, moved, left, asked, taken, collected, handed_over, returned, given_up, refused, History}
 use Rattle.model.specs.Changes.{Change, opens, collects, hands_over, puts_back, gives_up, is_hand_over, is_give_up, query_in, is_open, is_in_hand}
 use Rattle.model.specs.Histories.{Box, count, passes, with_query, staged_by, asked_by, query_change, asked_in, stage, asker, serials, hand_overs, give_ups, next_serial}
-use Rattle.model.specs.Outcomes.{Life, accepted}
+use Rattle.model.specs.Outcomes.{Life}
 use Rattle.model.specs.Laws.{Distinct, ends, endings, Put, newest, earlier, EventNamesAsker, EachNamesAsker, Kept}
 use Rattle.model.proofs.Checks.{accepted_passed, unless_passed}
 use Rattle.model.proofs.Counts.{in_cons, bit, count_cons, times, times_none, times_in, times_once, count_apart, count_set}

@@ -1,5 +1,5 @@
 -- The bucket that the tree finds is the bucket of the row.
-use Rattle.std.proofs.Common.{◌≡◌, ℕ, suc, ◌+◌, ◌-◌, ◌/◌, ◌<◌, ◌≤◌, Bool, true, false, cond, ◌&&◌, eqb, ltb, leb, List, [], ◌∷◌, length, take, drop, Some, None, Ok, Err, Option, Result, sym, refl, ap, ◌∙◌, subst, arith, length-drop, length-take}
+use Rattle.std.proofs.Common.{◌≡◌, ℕ, suc, ◌<◌, ◌≤◌, Bool, true, false, cond, eqb, ltb, leb, List, [], ◌∷◌, length, Some, None, Ok, Err, sym, refl, ap, ◌∙◌, subst, arith, length-drop, length-take}
 use Rattle.std.proofs.lemmas.Bool.Decides.{nat_tests}
 use Rattle.kinds.specs.Rules.{Model}
 use Rattle.buckets.specs.declared.Ends.{Ends}
@@ -7,8 +7,6 @@ use Rattle.buckets.specs.Ends.{bucket_number, ends_of, ends_of_rank, EndsLaws}
 use Rattle.buckets.specs.Regions.{members, bucket_of, region_of, region_over}
 use Rattle.buckets.specs.Rows.{Entry, rank_of}
 use Rattle.tree.specs.Rows.{find}
-use Rattle.register.specs.declared.bucket.Bucket.{Bucket}
-use Rattle.register.specs.declared.fault.RegisterFault.{RegisterFault}
 use Rattle.register.specs.declared.fault.RegisterFault.TheVariants.{TooFew}
 use Rattle.register.specs.Answers.{if_true, told, bucket_in}
 

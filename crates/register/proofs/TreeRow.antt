@@ -1,10 +1,11 @@
 -- Every place at which a set is present is admitted, where the tree is in order.
-use Rattle.std.proofs.Common.{◌≡◌, ℕ, Bool, true, false, cond, eqb, List, [], ◌∷◌, Some, None, sym, refl, ap, ◌∙◌, subst, arith}
+use Rattle.std.proofs.Common.{◌≡◌, ℕ, Bool, true, false, cond, eqb, List, [], ◌∷◌, Some, sym, refl, ap, ◌∙◌, subst, arith}
 use Rattle.std.proofs.lemmas.Bool.Decides.{nat_tests}
 use Rattle.kinds.specs.Rules.{Model}
-use Rattle.buckets.specs.Rows.{Entry, entry, In, here, later, row, RowLaws, PlacesAdmitted, AllAdmitted, IsRow}
+use Rattle.buckets.specs.Rows.{Entry, entry, In, here, later, RowLaws, PlacesAdmitted, IsRow}
 use Rattle.tree.specs.Rows.{find}
 use Rattle.tree.specs.Whole.{row_in}
+use Rattle.kinds.specs.declared.kind.PlaceKind.{Ghosts}
 use Rattle.register.specs.declared.register.Register.{Register}
 use Rattle.register.specs.View.{capacity_of, place_of, InOrder, row_of, TreeRowRight}
 
@@ -22,7 +23,7 @@ module _ {P : Type 0} where
           subst (λ y. In (entry n p) (y ∷ es)) (sym is) here
       go false x w deep = later (deep w)
 
-module _ {P R : Type 0} (m : Model P R) (self : Register P R) where
+module _ {P R : Type 0} {g : Ghosts P R} (m : Model P R) (self : Register P R g) where
   pub tree_row : RowLaws m → (InOrder m self → row_in self.slots.now self.root ≡ row_of m self)
       → ((j : ℕ) → find j (row_in self.slots.now self.root) ≡ place_of self j) → InOrder m self
       → TreeRowRight m self

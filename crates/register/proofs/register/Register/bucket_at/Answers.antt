@@ -1,4 +1,4 @@
-use Rattle.std.proofs.Common.{◌≡◌, Some, sym, refl, ap, ◌∙◌, subst}
+use Rattle.std.proofs.Common.{◌≡◌, Some, refl, ap, ◌∙◌, subst}
 use Rattle.buckets.specs.Regions.{members}
 use Rattle.buckets.specs.Rows.{rank_of}
 use Rattle.tree.specs.Rows.{find}

@@ -1,10 +1,10 @@
-use Rattle.std.proofs.Common.{◌≡◌, cond, eqb, Some, ap, ◌∙◌, arith}
+use Rattle.std.proofs.Common.{cond, eqb, Some, ap, ◌∙◌, arith}
 use Rattle.register.specs.View.{place_of}
 use Rattle.register.proofs.Apart.{empty_shaped, kept_since}
 use Rattle.register.proofs.register.Register.put_in.Goals as goal
 
 pub invariant_of-empty : goal.invariant_of-empty
-invariant_of-empty g c = (empty_shaped g.row.P.Denot g.row.P-Region.Denot, tt)
+invariant_of-empty g c = record { shape = empty_shaped g.row.P.Denot g.row.P-Region.Denot }
 
 pub returns : goal.returns
 returns g c =

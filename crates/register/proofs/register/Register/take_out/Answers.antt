@@ -1,9 +1,9 @@
-use Rattle.std.proofs.Common.{◌≡◌, None, arith}
+use Rattle.std.proofs.Common.{None, arith}
 use Rattle.register.proofs.Apart.{empty_shaped, kept_since, after_since}
 use Rattle.register.proofs.register.Register.take_out.Goals as goal
 
 pub invariant_of-empty : goal.invariant_of-empty
-invariant_of-empty g c = (empty_shaped g.row.P.Denot g.row.P-Region.Denot, tt)
+invariant_of-empty g c = record { shape = empty_shaped g.row.P.Denot g.row.P-Region.Denot }
 
 pub returns : goal.returns
 returns g c =
