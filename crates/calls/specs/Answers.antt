@@ -8,7 +8,6 @@ use Rattle.lines.specs.Meaning.{spare_of}
 use Rattle.lines.specs.Message.{message, text_fits}
 use Rattle.lines.specs.MessageFaults.{text_checked}
 use Rattle.open_queries.specs.Calls.{add_answer}
-use Rattle.register.specs.declared.bucket.Bucket.{Bucket}
 use Rattle.register.specs.Answers.{asker_answer, bucket_answer}
 use Rattle.calls.specs.declared.fault.CallFault.{CallFault}
 use Rattle.calls.specs.declared.fault.CallFault.TheVariants as fault
