@@ -3,7 +3,7 @@ use std::process::Command;
 fn main() {
     let root = std::env::var("CARGO_MANIFEST_DIR").unwrap();
     let out = std::env::var("OUT_DIR").unwrap();
-    let folder = format!("{root}/../target/staticlib");
+    let folder = format!("{root}/../crates/bench_exports/out");
     println!("cargo:rustc-link-search=native={folder}");
     println!("cargo:rustc-link-lib=static=bench_exports");
     println!("cargo:rerun-if-changed={folder}/libbench_exports.a");

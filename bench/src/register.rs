@@ -177,11 +177,11 @@ fn run_device(scene: &Scene, task: Task, turns: u32) -> Outcome {
         Task::Short => "short".to_string(),
         Task::Bucket(size) => format!("bucket{size}"),
     };
-    let program = concat!(env!("CARGO_MANIFEST_DIR"), "/../target/bin/register_bench");
+    let program = concat!(env!("CARGO_MANIFEST_DIR"), "/../crates/register_bench/out/register_bench");
     let output = Command::new(program)
         .args([name, scene.sets.to_string(), turns.to_string()])
         .output()
-        .expect("run `rt check register_bench` first");
+        .expect("run `rt run` in crates/register_bench first");
     let text = String::from_utf8(output.stdout).unwrap();
     let (sum, time) = text.trim().split_once(' ').expect("the device's program failed");
     (sum.parse().unwrap(), time.parse::<f64>().unwrap() / turns as f64)

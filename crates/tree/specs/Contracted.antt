@@ -34,11 +34,11 @@ abbrev pub Two : {P R : Type 0} → List (Node P R) → ℕ → ℕ → ℕ → 
 Two {P} {R} ns s left right = (l : Tree P R) × (r : Tree P R) × TwoAt ns s left right l r
 
 -- Three trees, with s between the first two and k between the last two.
-pub record ThreeAt {P R : Type 0} (ns : List (Node P R)) (s k one-is two_is three-is : ℕ) (a b c : Tree P R) : Type 0
+pub record ThreeAt {P R : Type 0} (ns : List (Node P R)) (s k one_is two_is three_is : ℕ) (a b c : Tree P R) : Type 0
   where
-    pub a_is : one-is ≡ root_of a
+    pub a_is : one_is ≡ root_of a
     pub b_is : two_is ≡ root_of b
-    pub c_is : three-is ≡ root_of c
+    pub c_is : three_is ≡ root_of c
     pub held_a : Holds ns a
     pub held_b : Holds ns b
     pub held_c : Holds ns c
