@@ -7,7 +7,7 @@ ghost use Rattle.calls.specs.Faults.{call_refusal};
 use kinds::KindFault;
 use lines::{LineFault, MessageFault};
 use open_queries::OpenFault;
-use refusals::{Fault, Refusal};
+use refusals::Refusal;
 use register::RegisterFault;
 
 /// Why a call is refused, by the part that refuses it.
@@ -59,15 +59,15 @@ impl From<LineFault> for CallFault {
     }
 }
 
-impl Fault for CallFault {
-    ghost means = { call_refusal };
+impl From<CallFault> for Refusal {
+    ghost from_gives = { λ e r. r ≡ call_refusal e };
 
-    fn refusal(&self) -> Refusal {
-        match self {
-            CallFault::Register(e) => e.refusal(),
-            CallFault::Message(e) => e.refusal(),
-            CallFault::Open(e) => e.refusal(),
-            CallFault::Line(e) => e.refusal(),
+    fn from(fault: CallFault) -> Refusal {
+        match fault {
+            CallFault::Register(e) => Refusal::from(e),
+            CallFault::Message(e) => Refusal::from(e),
+            CallFault::Open(e) => Refusal::from(e),
+            CallFault::Line(e) => Refusal::from(e),
         }
     }
 }

@@ -6,7 +6,7 @@ ghost use Rattle.feed.specs.Bytes.{word as word_of};
 ghost use Rattle.feed.specs.Heading.{read_refusal, named, heading_of};
 ghost use Rattle.feed.specs.Text.{accepted_text, stop_text, heading_text};
 
-use refusals::{Fault, Part, Refusal};
+use refusals::{Part, Refusal};
 use std::alloc::{AllocError, Global};
 use std::fmt;
 
@@ -23,27 +23,21 @@ pub enum Heading {
 #[derive(Clone, Copy, PartialEq, Eq, Debug)]
 pub enum ReadFault {
     /// Under 2 bytes are left, or the length is below 4 or beyond them.
-    Cut,
+    Cut = 6,
     /// The first record is no heading.
-    WrongKind,
+    WrongKind = 7,
     /// The record's length is not that of its kind.
-    WrongLength,
+    WrongLength = 8,
     /// The heading names no place kind.
-    NoPlaceKind,
+    NoPlaceKind = 10,
 }
 
-impl Fault for ReadFault {
-    ghost means = { read_refusal };
+impl From<ReadFault> for Refusal {
+    ghost from_gives = { λ e r. r ≡ read_refusal e };
 
-    fn refusal(&self) -> Refusal {
-        let number = match self {
-            ReadFault::Cut => 6,
-            ReadFault::WrongKind => 7,
-            ReadFault::WrongLength => 8,
-            ReadFault::NoPlaceKind => 10,
-        };
+    fn from(fault: ReadFault) -> Refusal {
         Refusal {
-            number,
+            number: fault as u8,
             part: Part::Feed,
         }
     }
@@ -62,7 +56,7 @@ impl fmt::Display for Stop {
 
     fn fmt<W: fmt::Write>(&self, f: &mut fmt::Formatter<W>) -> fmt::Result {
         let number = self.number;
-        let refusal = self.fault.refusal();
+        let refusal = Refusal::from(self.fault);
         let offset = self.offset;
         write!(f, "{number} fault {refusal} at {offset}")
     }

@@ -1,11 +1,14 @@
 pub mod Rules
 pub mod Faults
 pub mod Bytes
+pub mod Span
 pub mod Keyed
 pub mod Plane
 pub mod Course
 pub mod Water
 pub mod CourseLaws
 pub mod Ranks
+pub mod SpanLaws
+pub mod WaterLaws
 pub mod PlaneLaws
 pub mod Carried

@@ -2,24 +2,21 @@
 ghost use Rattle.kinds.specs.Course.{course as course_model};
 ghost use Rattle.kinds.specs.CourseLaws.{course_laws};
 
-use crate::bytes::four_numbers;
+use crate::bytes::two_numbers_before;
 use crate::fault::KindFault;
 use crate::kind::PlaceKind;
+use crate::span::Span;
 use std::cmp::Ordering;
 
 /// A place on the course: a reach, which is a numbered stretch of water, and an offset along it in decimetres.
-#[derive(Clone, Copy, PartialEq, Eq, Debug)]
+#[derive(Clone, Copy, PartialEq, Eq, PartialOrd, Ord, Debug)]
 pub struct CoursePlace {
     pub reach: u16,
     pub offset: u16,
 }
 
 /// All places from the lowest to the highest.
-#[derive(Clone, Copy, PartialEq, Eq, Debug)]
-pub struct CourseRegion {
-    pub low: CoursePlace,
-    pub high: CoursePlace,
-}
+pub type CourseRegion = Span<CoursePlace>;
 
 impl PlaceKind for CoursePlace {
     type Region = CourseRegion;
@@ -37,34 +34,19 @@ impl PlaceKind for CoursePlace {
     }
 
     fn compare(&self, other: &CoursePlace) -> Ordering {
-        if self.reach == other.reach {
-            self.offset.cmp(&other.offset)
-        } else {
-            self.reach.cmp(&other.reach)
-        }
+        self.cmp(other)
     }
 
     fn region(&self) -> CourseRegion {
-        CourseRegion {
-            low: *self,
-            high: *self,
-        }
+        Span::of(*self)
     }
 
     fn join(a: CourseRegion, b: CourseRegion) -> CourseRegion {
-        let low = match a.low.compare(&b.low) {
-            Ordering::Greater => b.low,
-            _ => a.low,
-        };
-        let high = match a.high.compare(&b.high) {
-            Ordering::Greater => a.high,
-            _ => b.high,
-        };
-        CourseRegion { low, high }
+        a.join(b)
     }
 
     fn within(a: CourseRegion, b: CourseRegion) -> bool {
-        !b.low.compare(&a.low).is_gt() && !a.high.compare(&b.high).is_gt()
+        a.within(b)
     }
 
     fn width() -> u8 {
@@ -72,11 +54,8 @@ impl PlaceKind for CoursePlace {
     }
 
     fn bytes(region: CourseRegion) -> Result<[u8; 24], KindFault> {
-        Ok(four_numbers(
-            region.low.reach,
-            region.low.offset,
-            region.high.reach,
-            region.high.offset,
-        ))
+        let CourseRegion { low, high } = region;
+        let highest = two_numbers_before(high.reach, high.offset, [0; 24]);
+        Ok(two_numbers_before(low.reach, low.offset, highest))
     }
 }

@@ -1,26 +1,25 @@
 //! What a kind refuses.
+ghost use Rattle.std.specs.Prelude.{◌≡◌};
 ghost use Rattle.kinds.specs.Faults.{kind_refusal};
 
-use refusals::{Fault, Part, Refusal};
+use refusals::{Part, Refusal};
 
 /// Why a kind refuses.
 #[derive(Clone, Copy, PartialEq, Eq, Debug)]
 pub enum KindFault {
     /// The kind does not admit the place.
-    NotAdmitted,
+    NotAdmitted = 2,
     /// The kind's regions have more bytes than a message has room for.
-    TooWide,
+    TooWide = 5,
 }
 
-impl Fault for KindFault {
-    ghost means = { kind_refusal };
+impl From<KindFault> for Refusal {
+    ghost from_gives = { λ e r. r ≡ kind_refusal e };
 
-    fn refusal(&self) -> Refusal {
-        let number = match self {
-            KindFault::NotAdmitted => 2,
-            KindFault::TooWide => 5,
-        };
-        let part = Part::Kind;
-        Refusal { number, part }
+    fn from(fault: KindFault) -> Refusal {
+        Refusal {
+            number: fault as u8,
+            part: Part::Kind,
+        }
     }
 }

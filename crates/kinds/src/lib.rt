@@ -7,6 +7,7 @@ mod fault;
 mod kind;
 mod plane;
 mod plane_place;
+mod span;
 mod water;
 
 pub use course::{CoursePlace, CourseRegion};
@@ -14,4 +15,5 @@ pub use fault::KindFault;
 pub use kind::PlaceKind;
 pub use plane::{PlaneRegion, one_place_a_cell};
 pub use plane_place::PlanePlace;
+pub use span::Span;
 pub use water::{WaterPlace, WaterRegion};

@@ -3,10 +3,11 @@ ghost use Rattle.std.specs.Prelude.{◌≡◌};
 ghost use Rattle.kinds.specs.Plane.{cell_of_place, plane as plane_model};
 ghost use Rattle.kinds.specs.PlaneLaws.{plane_laws};
 
-use crate::bytes::four_numbers;
+use crate::bytes::two_numbers_before;
 use crate::fault::KindFault;
 use crate::kind::PlaceKind;
 use crate::plane_place::PlanePlace;
+use crate::span::Span;
 use std::cmp::Ordering;
 
 /// Places at one cell are one place.
@@ -14,13 +15,11 @@ pub fn one_place_a_cell()
     ensures { (a b : PlanePlace) → cell_of_place a ≡ cell_of_place b → a ≡ b }
 {}
 
-/// A rectangle of cells: the lowest and highest x, and the lowest and highest y.
+/// A rectangle of cells: all x and all y from the lowest to the highest.
 #[derive(Clone, Copy, PartialEq, Eq, Debug)]
 pub struct PlaneRegion {
-    pub low_x: u16,
-    pub high_x: u16,
-    pub low_y: u16,
-    pub high_y: u16,
+    pub x: Span<u16>,
+    pub y: Span<u16>,
 }
 
 impl PlaceKind for PlanePlace {
@@ -44,24 +43,20 @@ impl PlaceKind for PlanePlace {
 
     fn region(&self) -> PlaneRegion {
         PlaneRegion {
-            low_x: self.x(),
-            high_x: self.x(),
-            low_y: self.y(),
-            high_y: self.y(),
+            x: Span::of(self.x()),
+            y: Span::of(self.y()),
         }
     }
 
     fn join(a: PlaneRegion, b: PlaneRegion) -> PlaneRegion {
         PlaneRegion {
-            low_x: a.low_x.min(b.low_x),
-            high_x: a.high_x.max(b.high_x),
-            low_y: a.low_y.min(b.low_y),
-            high_y: a.high_y.max(b.high_y),
+            x: a.x.join(b.x),
+            y: a.y.join(b.y),
         }
     }
 
     fn within(a: PlaneRegion, b: PlaneRegion) -> bool {
-        b.low_x <= a.low_x && a.high_x <= b.high_x && b.low_y <= a.low_y && a.high_y <= b.high_y
+        a.x.within(b.x) && a.y.within(b.y)
     }
 
     fn width() -> u8 {
@@ -69,6 +64,8 @@ impl PlaceKind for PlanePlace {
     }
 
     fn bytes(region: PlaneRegion) -> Result<[u8; 24], KindFault> {
-        Ok(four_numbers(region.low_x, region.high_x, region.low_y, region.high_y))
+        let PlaneRegion { x, y } = region;
+        let y = two_numbers_before(y.low, y.high, [0; 24]);
+        Ok(two_numbers_before(x.low, x.high, y))
     }
 }

@@ -11,48 +11,44 @@ use std::cmp::Ordering;
 /// has no key; `curve::KEYS` stands there in its place.
 #[derive(Clone, Copy)]
 pub struct PlanePlace {
-    x: u16,
-    y: u16,
+    cell: Cell,
     key: u32,
-    ghost keyed: { key ≡ carried (cell_xy x y) },
-    ghost back: { leads_back key (cell_xy x y) ≡ true },
+    ghost keyed: { key ≡ carried cell },
+    ghost back: { leads_back key cell ≡ true },
 }
 
-// The number that a place at (x, y) carries.
-fn key_to_carry(x: u16, y: u16) -> u32
-    ensures value { result ≡ carried (cell_xy x y) }
-    ensures back { leads_back result (cell_xy x y) ≡ true }
+// The number that a place at a cell carries.
+fn key_to_carry(cell: Cell) -> u32
+    ensures value { result ≡ carried cell }
+    ensures back { leads_back result cell ≡ true }
 {
-    match curve::key_of(Cell { x, y }) {
-        Some(key) => key,
-        None => curve::KEYS,
-    }
+    curve::key_of(cell).unwrap_or(curve::KEYS)
 }
 
 impl PlanePlace {
     /// The place at a cell.
     pub fn new(x: u16, y: u16) -> PlanePlace
-        ensures x { result.x ≡ x }
-        ensures y { result.y ≡ y }
+        ensures { result.cell ≡ cell_xy x y }
     {
-        let key = key_to_carry(x, y);
-        PlanePlace { x, y, key }
+        let cell = Cell { x, y };
+        let key = key_to_carry(cell);
+        PlanePlace { cell, key }
     }
 
     pub fn x(&self) -> u16
-        ensures { result ≡ self.now.x }
+        ensures { result ≡ self.now.cell.x }
     {
-        self.x
+        self.cell.x
     }
 
     pub fn y(&self) -> u16
-        ensures { result ≡ self.now.y }
+        ensures { result ≡ self.now.cell.y }
     {
-        self.y
+        self.cell.y
     }
 
     pub(crate) fn compare_keys(&self, other: &PlanePlace) -> Ordering
-        ensures { result ≡ nat_cmp (carried (cell_xy self.now.x self.now.y)) (carried (cell_xy other.now.x other.now.y)) }
+        ensures { result ≡ nat_cmp (carried self.now.cell) (carried other.now.cell) }
     {
         self.key.cmp(&other.key)
     }

@@ -4,7 +4,7 @@ ghost use Rattle.lines.specs.declared.fault.MessageFault.TheVariants.{Kind as Of
 ghost use Rattle.lines.specs.MessageFaults.{message_refusal, line_refusal};
 
 use kinds::KindFault;
-use refusals::{Fault, Part, Refusal};
+use refusals::{Part, Refusal};
 
 /// Why a message cannot be made.
 #[derive(Clone, Copy, PartialEq, Eq, Debug)]
@@ -23,16 +23,16 @@ impl From<KindFault> for MessageFault {
     }
 }
 
-impl Fault for MessageFault {
-    ghost means = { message_refusal };
+impl From<MessageFault> for Refusal {
+    ghost from_gives = { λ e r. r ≡ message_refusal e };
 
-    fn refusal(&self) -> Refusal {
-        match self {
+    fn from(fault: MessageFault) -> Refusal {
+        match fault {
             MessageFault::Text => Refusal {
                 number: 4,
                 part: Part::Query,
             },
-            MessageFault::Kind(e) => e.refusal(),
+            MessageFault::Kind(e) => Refusal::from(e),
         }
     }
 }
@@ -41,23 +41,20 @@ impl Fault for MessageFault {
 #[derive(Clone, Copy, PartialEq, Eq, Debug)]
 pub enum LineFault {
     /// The message, or the caller's space, has not 64 bytes.
-    Size,
+    Size = 9,
     /// Nothing is spare.
-    Full,
+    Full = 26,
     /// Nothing waits.
-    Empty,
+    Empty = 29,
 }
 
-impl Fault for LineFault {
-    ghost means = { line_refusal };
+impl From<LineFault> for Refusal {
+    ghost from_gives = { λ e r. r ≡ line_refusal e };
 
-    fn refusal(&self) -> Refusal {
-        let number = match self {
-            LineFault::Size => 9,
-            LineFault::Full => 26,
-            LineFault::Empty => 29,
-        };
-        let part = Part::Line;
-        Refusal { number, part }
+    fn from(fault: LineFault) -> Refusal {
+        Refusal {
+            number: fault as u8,
+            part: Part::Line,
+        }
     }
 }

@@ -1,32 +1,29 @@
 //! What the open queries refuse.
+ghost use Rattle.std.specs.Prelude.{◌≡◌};
 ghost use Rattle.open_queries.specs.Calls.{open_refusal};
 
-use refusals::{Fault, Part, Refusal};
+use refusals::{Part, Refusal};
 
 /// Why the open queries refuse.
 #[derive(Clone, Copy, PartialEq, Eq, Debug)]
 pub enum OpenFault {
     /// 64 queries stand.
-    TooMany,
+    TooMany = 24,
     /// The last serial was given.
-    LastSerial,
+    LastSerial = 25,
     /// The serial is not that of an open query.
-    NotOpen,
+    NotOpen = 27,
     /// The handover's serial is not in hand here.
-    NotInHand,
+    NotInHand = 28,
 }
 
-impl Fault for OpenFault {
-    ghost means = { open_refusal };
+impl From<OpenFault> for Refusal {
+    ghost from_gives = { λ e r. r ≡ open_refusal e };
 
-    fn refusal(&self) -> Refusal {
-        let number = match self {
-            OpenFault::TooMany => 24,
-            OpenFault::LastSerial => 25,
-            OpenFault::NotOpen => 27,
-            OpenFault::NotInHand => 28,
-        };
-        let part = Part::Open;
-        Refusal { number, part }
+    fn from(fault: OpenFault) -> Refusal {
+        Refusal {
+            number: fault as u8,
+            part: Part::Open,
+        }
     }
 }

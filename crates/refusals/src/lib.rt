@@ -1,8 +1,7 @@
 //! What every refusal has: a number, and the part of the device that gave it.
 #![tactic(auto)]
 
-ghost use Rattle.std.specs.Prelude.{◌≡◌, Some};
-ghost use Rattle.refusals.specs.declared.Refusal.{Refusal};
+ghost use Rattle.std.specs.Prelude.{Some};
 ghost use Rattle.refusals.specs.Words.{word, refusal_text};
 
 use std::fmt;
@@ -33,7 +32,7 @@ impl fmt::Display for Part {
     }
 }
 
-/// A refusal as it is told: its number and the part that gave it.
+/// A refusal as it is told: its number and the part that gave it. The error enum of a part turns into it by `From`.
 #[derive(Clone, Copy, PartialEq, Eq, Debug)]
 pub struct Refusal {
     pub number: u8,
@@ -44,16 +43,7 @@ impl fmt::Display for Refusal {
     ghost output = { λ r. Some (refusal_text r) };
 
     fn fmt<W: fmt::Write>(&self, f: &mut fmt::Formatter<W>) -> fmt::Result {
-        let number = self.number;
-        let part = self.part;
+        let Refusal { number, part } = *self;
         write!(f, "{number} {part}")
     }
-}
-
-/// A fault of one part. `means` gives, case by case, the refusal that it stands for.
-pub trait Fault {
-    ghost means: { Self → Refusal };
-
-    fn refusal(&self) -> Refusal
-        ensures { result ≡ means self.now };
 }

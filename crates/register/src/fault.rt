@@ -4,7 +4,7 @@ ghost use Rattle.register.specs.declared.fault.RegisterFault.TheVariants.{Kind a
 ghost use Rattle.register.specs.Faults.{register_refusal};
 
 use kinds::KindFault;
-use refusals::{Fault, Part, Refusal};
+use refusals::{Part, Refusal};
 
 /// Why the register refuses.
 #[derive(Clone, Copy, PartialEq, Eq, Debug)]
@@ -31,12 +31,12 @@ impl From<KindFault> for RegisterFault {
     }
 }
 
-impl Fault for RegisterFault {
-    ghost means = { register_refusal };
+impl From<RegisterFault> for Refusal {
+    ghost from_gives = { λ e r. r ≡ register_refusal e };
 
-    fn refusal(&self) -> Refusal {
-        let (number, part) = match self {
-            RegisterFault::Kind(e) => return e.refusal(),
+    fn from(fault: RegisterFault) -> Refusal {
+        let (number, part) = match fault {
+            RegisterFault::Kind(e) => return Refusal::from(e),
             RegisterFault::NoSuchSet => (1, Part::Register),
             RegisterFault::Size => (3, Part::Query),
             RegisterFault::AlreadyPresent => (21, Part::Register),

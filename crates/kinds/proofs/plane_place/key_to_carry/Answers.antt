@@ -1,8 +1,7 @@
-use Rattle.curve.specs.Hilbert.{cell}
 use Rattle.kinds.specs.Carried.{carried_key}
 use Rattle.kinds.proofs.plane_place.key_to_carry.Goals as goal
 
-pub returns-in-Some : goal.returns-in-Some
-returns-in-Some c =
-    let h = carried_key (cell c.args.x c.args.y) c.in-Some.key c.in-Some.ensures.value c.in-Some.ensures.back in
-    record { value = h.0; back = h.1 }
+pub returns : goal.returns
+returns c =
+    let h = carried_key c.args.cell c.key_of.result c.key_of.ensures.value c.key_of.ensures.back in
+    rw c.unwrap_or.ensures record { value = h.0; back = h.1 }
