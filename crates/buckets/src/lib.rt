@@ -2,9 +2,9 @@
 #![tactic(auto)]
 
 ghost use Rattle.std.specs.Prelude.{◌≡◌, ℕ, ◌/◌, ◌<◌, ◌≤◌, List, length, Some, None};
-ghost use Rattle.buckets.specs.Ends.{ends_of, ends_of_rank, EndsLaws};
+ghost use Rattle.buckets.specs.Ends.{bucket_number, ends_of, ends_of_rank, EndsLaws};
 ghost use Rattle.buckets.specs.Regions.{MemberLaws, RegionLaws};
-ghost use Rattle.buckets.specs.Rows.{Entry, OneEach, AheadLaws, RowLaws};
+ghost use Rattle.buckets.specs.Rows.{OneEach, AheadLaws, RowLaws};
 
 use kinds::PlaceKind;
 
@@ -13,6 +13,13 @@ use kinds::PlaceKind;
 pub struct Ends {
     pub first: u16,
     pub last: u16,
+}
+
+/// A present set and its place.
+#[derive(Clone, Copy, PartialEq, Eq, Debug)]
+pub struct Entry<P> {
+    pub set: u16,
+    pub place: P,
 }
 
 /// Who stands first of two entries is a total order on entries at admitted places.
@@ -40,33 +47,48 @@ pub fn region_laws<P: PlaceKind>()
     ensures { RegionLaws P.PlaceKind.model }
 {}
 
-// How many buckets there are; at least one.
-fn bucket_count(present: u16, size: u16) -> u16
-    requires { (1 ≤ size) × (size ≤ present) }
-    ensures { (result ≡ present / size) × (1 ≤ result) }
-{
-    present / size
+// Present sets, and a size for which there are enough.
+#[derive(Clone, Copy)]
+struct Split {
+    present: u16,
+    size: u16,
+    ghost some: { 1 ≤ size },
+    ghost enough: { size ≤ present },
 }
 
-// The ends of the bucket of a number.
-fn ends_at(present: u16, size: u16, number: u16) -> Ends
-    requires { (1 ≤ size) × ((size ≤ present) × (number < present / size)) }
-    ensures { result ≡ ends_of present size number }
-{
-    let first = number * size;
-    let last = if number == present / size - 1 {
-        present - 1
-    } else {
-        first + size - 1
-    };
-    Ends { first, last }
-}
+impl Split {
+    // How many buckets there are.
+    fn count(self) -> u16
+        ensures value { result ≡ self.present / self.size }
+        ensures some { 1 ≤ result }
+    {
+        self.present / self.size
+    }
 
-// A bucket's ends are in order, and lie in the row.
-fn ends_in_row(present: u16, size: u16, number: u16)
-    requires { (1 ≤ size) × ((size ≤ present) × (number < present / size)) }
-    ensures { ((ends_of present size number).first ≤ (ends_of present size number).last) × ((ends_of present size number).last < present) }
-{}
+    // The number of the bucket of a rank.
+    fn number_of(self, rank: u16) -> u16
+        ensures value { result ≡ bucket_number self.present self.size rank }
+        ensures within { result < self.present / self.size }
+    {
+        (rank / self.size).min(self.count() - 1)
+    }
+
+    // The ends of the bucket of a number.
+    fn ends(self, number: u16) -> Ends
+        requires { number < self.present / self.size }
+        ensures value { result ≡ ends_of self.present self.size number }
+        ensures order { result.first ≤ result.last }
+        ensures within { result.last < self.present }
+    {
+        let first = number * self.size;
+        let last = if number == self.count() - 1 {
+            self.present - 1
+        } else {
+            first + self.size - 1
+        };
+        Ends { first, last }
+    }
+}
 
 /// The ends of the bucket of the set of rank `rank`, of `present` sets at size `size`; none where fewer sets are present than
 /// the size asks, or none has that rank.
@@ -77,8 +99,6 @@ pub fn bucket_ends(present: u16, size: u16, rank: u16) -> Option<Ends>
     if size == 0 || present < size || rank >= present {
         return None;
     }
-    let count = bucket_count(present, size);
-    let number = (rank / size).min(count - 1);
-    ends_in_row(present, size, number);
-    Some(ends_at(present, size, number))
+    let split = Split { present, size };
+    Some(split.ends(split.number_of(rank)))
 }
