@@ -7,7 +7,7 @@ pub mod Plane
 pub mod Course
 pub mod Water
 pub mod CourseLaws
-pub mod Ranks
+pub mod Least
 pub mod SpanLaws
 pub mod WaterLaws
 pub mod PlaneLaws

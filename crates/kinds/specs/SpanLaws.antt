@@ -10,7 +10,7 @@ use Rattle.std.proofs.lemmas.Bool.Decides.{nat_tests}
 use Rattle.std.proofs.lemmas.Cmp.{upto, tied_itself}
 use Rattle.kinds.specs.declared.span.Span.{Span}
 use Rattle.kinds.specs.Span.{span, one, joined, inside}
-use Rattle.kinds.specs.Ranks.{least_commutes, least_associates}
+use Rattle.kinds.specs.Least.{least_commutes, least_associates}
 
 gt_turned : (o : Ordering) → is_gt (ordering_reverse o) ≡ is_lt o
 gt_turned Less = refl

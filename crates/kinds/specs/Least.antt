@@ -1,19 +1,5 @@
--- How numbers compare, and what takes the least or the greatest of two.
-use Rattle.std.specs.Prelude.{◌≡◌, ℕ, ◌<◌}
-use Rattle.std.specs.declared.cmp.Ordering.TheVariants.{Less, Equal}
-use Rattle.std.specs.declared.cmp.Ordering.{Ordering}
-use Rattle.std.proofs.Common.{arith}
-use Rattle.std.proofs.lemmas.Bool.Decides.{nat_tests}
-use Rattle.std.specs.Ordering.{ordering_reverse, MatchOrdering, nat_cmp}
-
-pub rank_flips : (a b : ℕ) → nat_cmp a b ≡ ordering_reverse (nat_cmp b a)
-rank_flips a b = grind (arith, nat_tests)
-
-pub rank_chains : (a b c : ℕ) → nat_cmp a b ≡ Less → nat_cmp b c ≡ Less → nat_cmp a c ≡ Less
-rank_chains a b c p q = grind (arith, nat_tests)
-
-pub rank_tells : (a b : ℕ) → nat_cmp a b ≡ Equal → a ≡ b
-rank_tells a b p = grind (arith, nat_tests)
+-- What takes the least of two values.
+use Rattle.std.specs.Prelude.{◌≡◌}
 
 -- What gives the greatest lower bound of two, in any order, is commutative and associative.
 module _ {K : Type 0} (Upto : K → K → Type 0) (least : K → K → K)
@@ -30,6 +16,3 @@ module _ {K : Type 0} (Upto : K → K → Type 0) (least : K → K → K)
       (best _ _ _ (trans _ _ _ (first (least a b) c) (second a b)) (second (least a b) c)))
       (best _ _ _ (best _ _ _ (first a (least b c)) (trans _ _ _ (second a (least b c)) (first b c)))
       (trans _ _ _ (second a (least b c)) (second b c)))
-
-pub ranked : (a b : ℕ) (o : Ordering) → MatchOrdering o (a < b) (a ≡ b) (b < a) → o ≡ nat_cmp a b
-ranked a b o h = grind (arith, nat_tests)
