@@ -4,7 +4,8 @@ use mathlib.Core.Bool.{false≢true}
 use Rattle.std.proofs.lemmas.Bool.{lt-ltb, ltb-true, cases_order}
 use Rattle.std.specs.Ordering.{ordering_then, is_lt, ordering_reverse, nat_cmp}
 use Rattle.kinds.specs.Rules.{Model, Admitted, Laws}
-use Rattle.buckets.specs.Rows.{Entry, ahead, AheadLaws}
+use Rattle.buckets.specs.Rows.{ahead, AheadLaws}
+use Rattle.buckets.specs.declared.Entry.{Entry}
 
 below_first : (x y : ℕ) → x < y → is_lt (nat_cmp x y) ≡ true
 below_first x y l = rw (lt-ltb x y l)

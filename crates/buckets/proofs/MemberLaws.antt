@@ -3,7 +3,8 @@ use Rattle.std.proofs.Common.{◌≡◌, ℕ, zero, suc, ◌+◌, ◌-◌, ◌/�
 use Rattle.std.proofs.lemmas.List.{length-take-le}
 use Rattle.std.proofs.lemmas.Bool.{eq-eqb, ne_eqb}
 use Rattle.buckets.specs.Ends.{bucket_number, ends_of, EndsLaws}
-use Rattle.buckets.specs.Rows.{Entry, In, here, later, rank_of, OneEach}
+use Rattle.buckets.specs.Rows.{In, here, later, rank_of, OneEach}
+use Rattle.buckets.specs.declared.Entry.{Entry}
 use Rattle.buckets.specs.Regions.{members, MemberLaws}
 use Rattle.buckets.proofs.RowLaws.{in_cons}
 use Rattle.buckets.proofs.EndsLaws.{ends_laws}

@@ -1,7 +1,8 @@
 -- The join of one-place regions is the least region that covers the places.
 use Rattle.std.proofs.Common.{List, [], ◌∷◌, sym, ap, ◌∙◌}
 use Rattle.kinds.specs.Rules.{Model, Laws, Within, Covers}
-use Rattle.buckets.specs.Rows.{Entry, In, here, later}
+use Rattle.buckets.specs.Rows.{In, here, later}
+use Rattle.buckets.specs.declared.Entry.{Entry}
 use Rattle.buckets.specs.Regions.{joined_with, region_of, CoversAll, RegionLaws}
 
 module _ {P R : Type 0} (m : Model P R) (laws : Laws m) where

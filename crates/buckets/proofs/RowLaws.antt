@@ -2,7 +2,8 @@
 use Rattle.std.proofs.Common.{◌≡◌, ℕ, zero, suc, Bool, true, false, cond, ◌⊎◌, List, [], ◌∷◌, Some, None, Option, sym, refl, ap, ◌∙◌, subst, inl, inr, ⊎_elim, true≢false, arith}
 use Rattle.std.proofs.lemmas.Bool.{cases_eq}
 use Rattle.kinds.specs.Rules.{Model, Admitted}
-use Rattle.buckets.specs.Rows.{Entry, entry, In, here, later, ahead, inserted, with_set, row, Sorted, AllAdmitted, OneEach, IsRow, PlacesAdmitted, RowLaws, AheadLaws}
+use Rattle.buckets.specs.Rows.{entry, In, here, later, ahead, inserted, with_set, row, Sorted, AllAdmitted, OneEach, IsRow, PlacesAdmitted, RowLaws, AheadLaws}
+use Rattle.buckets.specs.declared.Entry.{Entry}
 use Rattle.buckets.proofs.Ahead.{same_entry}
 
 pub in_cons : {A : Type 0} {x y : A} {ys : List A} → In x (y ∷ ys) → (x ≡ y) ⊎ In x ys

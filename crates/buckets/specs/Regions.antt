@@ -3,7 +3,8 @@ use Rattle.std.specs.Prelude.{◌≡◌, ℕ, ◌+◌, ◌-◌, ◌*◌, ◌/◌
 use Rattle.kinds.specs.Rules.{Model, Within, Covers}
 use Rattle.buckets.specs.declared.Ends.{Ends}
 use Rattle.buckets.specs.Ends.{bucket_number, ends_of}
-use Rattle.buckets.specs.Rows.{Entry, In, rank_of}
+use Rattle.buckets.specs.Rows.{In, rank_of}
+use Rattle.buckets.specs.declared.Entry.{Entry}
 
 -- The entries of a row from one rank to another.
 abbrev pub members : {P : Type 0} → Ends → List (Entry P) → List (Entry P)

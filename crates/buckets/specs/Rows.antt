@@ -2,7 +2,7 @@
 use Rattle.std.specs.Prelude.{◌≡◌, ℕ, zero, suc, ◌≤◌, Bool, true, cond, List, [], ◌∷◌, Some, None, Option, ◌==◌, ◌≢◌}
 use Rattle.std.specs.Ordering.{ordering_then, is_lt, nat_cmp}
 use Rattle.kinds.specs.Rules.{Model, Admitted}
-pub use Rattle.buckets.specs.declared.Entry.{Entry}
+use Rattle.buckets.specs.declared.Entry.{Entry}
 
 abbrev pub entry : {P : Type 0} → ℕ → P → Entry P
 entry n p = record { set = n; place = p }

@@ -4,7 +4,8 @@ use Rattle.std.proofs.lemmas.Bool.{eq-eqb}
 use Rattle.kinds.specs.Rules.{Model, Within}
 use Rattle.buckets.specs.declared.Ends.{Ends}
 use Rattle.buckets.specs.Ends.{bucket_number, ends_of, EndsLaws}
-use Rattle.buckets.specs.Rows.{Entry, In, here, later, rank_of, OneEach}
+use Rattle.buckets.specs.Rows.{In, here, later, rank_of, OneEach}
+use Rattle.buckets.specs.declared.Entry.{Entry}
 use Rattle.buckets.specs.Regions.{members, bucket_of, MemberLaws, region_of, region_over, CoversAll, RegionLaws}
 use Rattle.model.proofs.Counts.{in_cons}
 

@@ -7,7 +7,8 @@ use Rattle.kinds.specs.declared.fault.KindFault.TheVariants.{NotAdmitted}
 use Rattle.kinds.specs.Rules.{Model, Admitted}
 use Rattle.kinds.specs.Faults.{kind_refusal, checked}
 use Rattle.buckets.specs.Ends.{bucket_number, ends_of}
-use Rattle.buckets.specs.Rows.{Entry, entry, In, OneEach, RowLaws, rank_of}
+use Rattle.buckets.specs.Rows.{entry, In, OneEach, RowLaws, rank_of}
+use Rattle.buckets.specs.declared.Entry.{Entry}
 use Rattle.buckets.specs.Regions.{RegionLaws}
 use Rattle.register.specs.Answers.{numbered, size_allowed}
 use Rattle.model.specs.Events.{Query, Event, entered, moved, left, asked, taken, collected, handed_over, returned, given_up, refused, History}

@@ -1,7 +1,7 @@
 -- What a history says: who is present where, what has become of each query, and what was sent.
 use Rattle.std.specs.Prelude.{ℕ, ◌+◌, Bool, true, false, cond, List, [], ◌∷◌, ◌++◌, length, drop, is_some, Some, None, Option, ◌==◌}
 use Rattle.kinds.specs.Rules.{Model}
-use Rattle.buckets.specs.Rows.{Entry}
+use Rattle.buckets.specs.declared.Entry.{Entry}
 use Rattle.buckets.specs.Rows as rows
 use Rattle.buckets.specs.Regions.{bucket_of, region_over}
 use Rattle.lines.specs.Message.{message}

@@ -1,7 +1,8 @@
 -- The laws of a box's life.
 use Rattle.std.specs.Prelude.{◌≡◌, ℕ, ◌+◌, ◌-◌, ◌*◌, ◌≤◌, Bool, true, ◌&&◌, ◌||◌, List, [], ◌∷◌, ◌++◌, length, Some, None, Option, ◌==◌}
 use Rattle.kinds.specs.Rules.{Model, Within}
-use Rattle.buckets.specs.Rows.{Entry, entry, In, OneEach, IsRow, PlacesAdmitted}
+use Rattle.buckets.specs.Rows.{entry, In, OneEach, IsRow, PlacesAdmitted}
+use Rattle.buckets.specs.declared.Entry.{Entry}
 use Rattle.buckets.specs.Regions.{CoversAll}
 use Rattle.lines.specs.Message.{message}
 use Rattle.register.specs.Answers.{size_allowed}

@@ -5,7 +5,8 @@ use Rattle.kinds.specs.Rules.{Model}
 use Rattle.buckets.specs.declared.Ends.{Ends}
 use Rattle.buckets.specs.Ends.{bucket_number, ends_of, ends_of_rank, EndsLaws}
 use Rattle.buckets.specs.Regions.{members, bucket_of, region_of, region_over}
-use Rattle.buckets.specs.Rows.{Entry, rank_of}
+use Rattle.buckets.specs.Rows.{rank_of}
+use Rattle.buckets.specs.declared.Entry.{Entry}
 use Rattle.tree.specs.Rows.{find}
 use Rattle.register.specs.declared.fault.RegisterFault.TheVariants.{TooFew}
 use Rattle.register.specs.Answers.{if_true, told, bucket_in}

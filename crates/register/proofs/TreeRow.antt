@@ -2,7 +2,8 @@
 use Rattle.std.proofs.Common.{◌≡◌, ℕ, Bool, true, false, cond, eqb, List, [], ◌∷◌, Some, sym, refl, ap, ◌∙◌, subst, arith}
 use Rattle.std.proofs.lemmas.Bool.Decides.{nat_tests}
 use Rattle.kinds.specs.Rules.{Model}
-use Rattle.buckets.specs.Rows.{Entry, entry, In, here, later, RowLaws, PlacesAdmitted, IsRow}
+use Rattle.buckets.specs.Rows.{entry, In, here, later, RowLaws, PlacesAdmitted, IsRow}
+use Rattle.buckets.specs.declared.Entry.{Entry}
 use Rattle.tree.specs.Rows.{find}
 use Rattle.tree.specs.Whole.{row_in}
 use Rattle.kinds.specs.declared.kind.PlaceKind.{Ghosts}

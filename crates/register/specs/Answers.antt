@@ -6,7 +6,8 @@ use Rattle.kinds.specs.Faults.{checked}
 use Rattle.buckets.specs.declared.Ends.{Ends}
 use Rattle.buckets.specs.Ends.{bucket_number, ends_of}
 use Rattle.buckets.specs.Regions.{bucket_of, region_over}
-use Rattle.buckets.specs.Rows.{Entry, rank_of, row}
+use Rattle.buckets.specs.Rows.{rank_of, row}
+use Rattle.buckets.specs.declared.Entry.{Entry}
 use Rattle.register.specs.declared.bucket.Bucket.{Bucket}
 use Rattle.register.specs.declared.fault.RegisterFault.{RegisterFault}
 use Rattle.register.specs.declared.fault.RegisterFault.TheVariants as fault

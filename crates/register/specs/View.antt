@@ -3,7 +3,8 @@
 use Rattle.std.specs.Prelude.{◌≡◌, ℕ, List, length, None, Option}
 use Rattle.std.specs.List.{slice_get}
 use Rattle.kinds.specs.Rules.{Model}
-use Rattle.buckets.specs.Rows.{Entry, row, IsRow}
+use Rattle.buckets.specs.Rows.{row, IsRow}
+use Rattle.buckets.specs.declared.Entry.{Entry}
 use Rattle.tree.specs.declared.node.Node.{Node}
 use Rattle.tree.specs.Tree.{tall}
 use Rattle.tree.specs.Whole.{capacity, place_in, tree_in, row_in, Orderly}

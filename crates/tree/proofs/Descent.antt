@@ -7,7 +7,8 @@ use Rattle.tree.specs.Slots.{at, count_of, joined_over}
 use Rattle.tree.specs.Tree.{Tree, leaf, node, row_of, size, stored, Joined}
 use Rattle.tree.specs.Shapes.{ranked}
 use Rattle.tree.specs.Contracted.{TreeAt}
-use Rattle.buckets.specs.Rows.{Entry, entry, ahead}
+use Rattle.buckets.specs.Rows.{entry, ahead}
+use Rattle.buckets.specs.declared.Entry.{Entry}
 use Rattle.buckets.specs.Regions.{joined_with}
 use Rattle.tree.proofs.Held.{at_some, holds_size, holds_onto, root_in, count_is}
 use Rattle.tree.proofs.Writes.{Opened}

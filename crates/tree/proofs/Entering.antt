@@ -9,7 +9,8 @@ use Rattle.tree.specs.Tree.{Tree, leaf, node, row_of, times}
 use Rattle.tree.specs.Shapes.{evened, grown}
 use Rattle.tree.specs.Contracted.{one, GrowAt, Done}
 use Rattle.tree.specs.Rows.{often, find}
-use Rattle.buckets.specs.Rows.{Entry, entry, ahead, inserted, Sorted, AllAdmitted, AheadLaws}
+use Rattle.buckets.specs.Rows.{entry, ahead, inserted, Sorted, AllAdmitted, AheadLaws}
+use Rattle.buckets.specs.declared.Entry.{Entry}
 use Rattle.tree.specs.Whole.{capacity, in_use, place_in, row_in, ShapeAt, OrderlyAt, Orderly}
 use Rattle.tree.proofs.Held.{at_nth}
 use Rattle.tree.proofs.Balance.{same_even, low}

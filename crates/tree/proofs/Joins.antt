@@ -3,7 +3,8 @@ use Rattle.std.proofs.Common.{◌≡◌, ℕ, zero, suc, ◌+◌, ◌-◌, ◌<�
 use Rattle.std.proofs.lemmas.List.{take-append-le, drop-append-le}
 use Rattle.kinds.specs.Rules.{Model, Laws}
 use Rattle.tree.specs.Tree.{Tree, leaf, node, row_of, span, onto, Joined}
-use Rattle.buckets.specs.Rows.{Entry, entry}
+use Rattle.buckets.specs.Rows.{entry}
+use Rattle.buckets.specs.declared.Entry.{Entry}
 use Rattle.buckets.specs.Regions.{joined_with}
 
 module _ {X : Type 0} where

@@ -11,7 +11,8 @@ use Rattle.tree.specs.Tree.{Tree, leaf, node, size, row_of, times, Balanced, Hol
 use Rattle.tree.specs.Shapes.{evened, fused, shrunk}
 use Rattle.tree.specs.Contracted.{one, Done}
 use Rattle.tree.specs.Rows.{often, without, find}
-use Rattle.buckets.specs.Rows.{Entry, entry, In, later, ahead, Sorted, AllAdmitted, AheadLaws}
+use Rattle.buckets.specs.Rows.{entry, In, later, ahead, Sorted, AllAdmitted, AheadLaws}
+use Rattle.buckets.specs.declared.Entry.{Entry}
 use Rattle.tree.specs.Whole.{in_use, place_in, row_in, ShapeAt, OrderlyAt, Orderly}
 use Rattle.tree.proofs.Held.{nth_set_other, at_some, at_nth, at_other, at_same, holds_set}
 use Rattle.tree.proofs.Balance.{same_even}

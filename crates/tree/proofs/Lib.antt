@@ -20,3 +20,4 @@ pub mod Ranks
 pub mod Clearing
 pub mod Loops
 pub mod TheRow
+pub mod Shaped

@@ -1,7 +1,8 @@
 -- What the loops down a tree keep.
 use Rattle.std.proofs.Common.{◌≡◌, ℕ, ◌+◌, ◌-◌, ◌<◌, ◌≤◌, true, false, List, length, take, drop, sym, refl, ap, ◌∙◌, arith}
 use Rattle.kinds.specs.Rules.{Model, Laws}
-use Rattle.buckets.specs.Rows.{Entry, entry, ahead}
+use Rattle.buckets.specs.Rows.{entry, ahead}
+use Rattle.buckets.specs.declared.Entry.{Entry}
 use Rattle.buckets.specs.Regions.{joined_with}
 use Rattle.tree.specs.declared.node.Node.{Node}
 use Rattle.tree.specs.Slots.{at, count_of, left_child, joined_over}

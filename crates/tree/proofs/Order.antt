@@ -3,7 +3,8 @@ use Rattle.std.proofs.Common.{◌≡◌, ℕ, ◌+◌, ◌<◌, Bool, true, fals
 use mathlib.Core.Bool.{false≢true}
 use Rattle.std.proofs.lemmas.Bool.Decides.{nat_tests}
 use Rattle.kinds.specs.Rules.{Model, Admitted}
-use Rattle.buckets.specs.Rows.{Entry, entry, In, here, later, ahead, inserted, Sorted, AllAdmitted, AheadLaws}
+use Rattle.buckets.specs.Rows.{entry, In, here, later, ahead, inserted, Sorted, AllAdmitted, AheadLaws}
+use Rattle.buckets.specs.declared.Entry.{Entry}
 use Rattle.tree.specs.Tree.{Tree, leaf, node, row_of, times}
 use Rattle.tree.specs.Shapes.{evened, grown}
 use Rattle.tree.specs.Rows.{often}

@@ -9,8 +9,9 @@ use Rattle.tree.specs.Slots.{at, count_of, held_place}
 use Rattle.tree.specs.Tree.{Tree, leaf, node, row_of, times, stored, Holds}
 use Rattle.tree.specs.Contracted.{one, TreeAt}
 use Rattle.tree.specs.Rows.{often, find}
-use Rattle.buckets.specs.Rows.{Entry, entry, In, later}
-use Rattle.tree.specs.Whole.{in_use, place_in, mark, tree_in, row_in, ShapeAt}
+use Rattle.buckets.specs.Rows.{entry, In, later}
+use Rattle.buckets.specs.declared.Entry.{Entry}
+use Rattle.tree.specs.Whole.{capacity, in_use, place_in, mark, tree_in, row_in, ShapeAt}
 use Rattle.tree.proofs.Held.{at_nth}
 use Rattle.tree.proofs.Balance.{low}
 use Rattle.tree.proofs.Order.{in_first, often_row}
@@ -229,3 +230,17 @@ module _ {P R : Type 0} where
     | no high ↦ (let off : in_use ns j ≡ false = grind (arith, nat_tests) in ap (λ b. cond b (held_place (at ns j)) None)
         off)
   ]
+
+  -- A set that is present has a number from 1 to the capacity.
+  pub in_room : (ns : List (Node P R)) (s : ℕ) (p : P) → place_in ns s ≡ Some p → (0 < s) × (s ≤ capacity ns)
+  in_room ns s p there = go (dec_lt 0 s) (dec_lt s (min (length ns) 4096))
+    where
+      go : Dec (0 < s) → Dec (s < min (length ns) 4096) → (0 < s) × (s ≤ capacity ns)
+      go (yes pos) (yes low) = (pos, omega arith)
+      go a (no high) =
+          let none = past ns s (omega arith) in let z : ◌≡◌ {A = ℕ} 0 1 = cc in absurd (omega arith)
+      go (no zero) b =
+          let is : s ≡ 0 = omega arith in
+          let none = uncounted ns 0 refl in
+          let same : place_in ns s ≡ place_in ns 0 = ap (place_in ns) is in
+          let z : ◌≡◌ {A = ℕ} 0 1 = cc in absurd (omega arith)

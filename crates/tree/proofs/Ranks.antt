@@ -7,7 +7,8 @@ use Rattle.tree.specs.declared.node.Node.{Node}
 use Rattle.tree.specs.Tree.{Tree, row_of}
 use Rattle.tree.specs.Shapes.{ranked}
 use Rattle.tree.specs.Rows.{often}
-use Rattle.buckets.specs.Rows.{Entry, entry, rank_of, AheadLaws}
+use Rattle.buckets.specs.Rows.{entry, rank_of, AheadLaws}
+use Rattle.buckets.specs.declared.Entry.{Entry}
 use Rattle.tree.specs.Whole.{place_in, ShapeAt, OrderlyAt}
 use Rattle.tree.proofs.Order.{often_row}
 use Rattle.tree.proofs.Without.{ranked_nth}

@@ -2,7 +2,8 @@
 use Rattle.std.proofs.Common.{◌≡◌, ℕ, ◌<◌, ◌≤◌, true, false, cond, eqb, List, Some, sym, ap, ◌∙◌, arith}
 use Rattle.std.proofs.lemmas.Bool.Decides.{nat_tests}
 use Rattle.kinds.specs.Rules.{Model}
-use Rattle.buckets.specs.Rows.{Entry, entry, In, here, later, row, IsRow, PlacesAdmitted, RowLaws}
+use Rattle.buckets.specs.Rows.{entry, In, here, later, row, IsRow, PlacesAdmitted, RowLaws}
+use Rattle.buckets.specs.declared.Entry.{Entry}
 use Rattle.tree.specs.declared.node.Node.{Node}
 use Rattle.tree.specs.Tree.{Tree, row_of, times}
 use Rattle.tree.specs.Rows.{often, find}

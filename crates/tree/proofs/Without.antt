@@ -6,7 +6,8 @@ use Rattle.kinds.specs.Rules.{Model}
 use Rattle.tree.specs.Tree.{Tree, leaf, node, row_of, size, times, Balanced}
 use Rattle.tree.specs.Shapes.{evened, fused, shrunk, ranked}
 use Rattle.tree.specs.Rows.{often, without}
-use Rattle.buckets.specs.Rows.{Entry, entry, In, ahead, Sorted, AllAdmitted, AheadLaws}
+use Rattle.buckets.specs.Rows.{entry, In, ahead, Sorted, AllAdmitted, AheadLaws}
+use Rattle.buckets.specs.declared.Entry.{Entry}
 use Rattle.tree.proofs.Balance.{same_even}
 use Rattle.tree.proofs.Shrinking.{fuses}
 use Rattle.tree.proofs.Order.{in_mid, in_often, often_row, Around, around, AdmittedAround, admitted_around, side}

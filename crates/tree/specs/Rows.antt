@@ -1,6 +1,6 @@
 -- The row of entries, first to last.
 use Rattle.std.specs.Prelude.{ℕ, ◌+◌, cond, List, [], ◌∷◌, Some, None, Option, ◌==◌}
-use Rattle.buckets.specs.Rows.{Entry}
+use Rattle.buckets.specs.declared.Entry.{Entry}
 use Rattle.tree.specs.Contracted.{one}
 
 -- How often the slot j stands in the row.

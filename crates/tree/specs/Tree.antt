@@ -1,7 +1,8 @@
 -- Trees of slots, and when the slots hold one.
 use Rattle.std.specs.Prelude.{◌≡◌, ℕ, ◌+◌, ◌≤◌, max, cond, List, [], ◌∷◌, ◌++◌, Some, ◌==◌}
 use Rattle.kinds.specs.Rules.{Model}
-use Rattle.buckets.specs.Rows.{Entry, entry}
+use Rattle.buckets.specs.Rows.{entry}
+use Rattle.buckets.specs.declared.Entry.{Entry}
 use Rattle.tree.specs.declared.node.Node.{Node}
 use Rattle.tree.specs.Slots.{at}
 

@@ -4,7 +4,8 @@ use Rattle.kinds.specs.Rules.{Model}
 use Rattle.tree.specs.declared.node.Node.{Node}
 use Rattle.tree.specs.Slots.{at, height_of, count_of, held_place}
 use Rattle.tree.specs.Tree.{Tree, leaf, node, root_of, row_of, times, Balanced, Holds, Joined}
-use Rattle.buckets.specs.Rows.{Entry, Sorted, AllAdmitted}
+use Rattle.buckets.specs.Rows.{Sorted, AllAdmitted}
+use Rattle.buckets.specs.declared.Entry.{Entry}
 
 abbrev pub or_else : {X Y : Type 0} → Option X → Y → (X → Y) → Y
 or_else None y f = y

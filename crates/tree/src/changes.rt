@@ -1,13 +1,17 @@
 //! A tree with one entry more, or one less.
-ghost use Rattle.std.specs.Prelude.{◌≡◌, ◌<◌};
+ghost use Rattle.std.specs.Prelude.{◌≡◌, ℕ, ◌<◌, true, if◌then◌else◌, Some, None, nat_eq};
+ghost use Rattle.std.specs.List.{slice_get};
 ghost use Rattle.buckets.specs.Rows.{entry, ahead};
 ghost use Rattle.tree.specs.Tree.{Tree};
 ghost use Rattle.tree.specs.Shapes.{grown, first_slot, pulled, fused, shrunk};
+ghost use Rattle.tree.specs.Rows.{without};
+ghost use Rattle.tree.specs.Whole.{place_in, row_in, shaped, Orderly};
 ghost use Rattle.tree.specs.Contracted.{Grow, GrowAt, Treed, TreeAt, Paired, PairAt, Done};
 
 use crate::node::Node;
 use crate::rotations::rebalance;
-use crate::slots::{choose, left_at, place_at, plant, right_at};
+use crate::slots::{choose, clear, count_at, left_at, place_at, plant, right_at};
+use buckets::ahead_laws;
 use kinds::PlaceKind;
 
 // Whether set `s` at `p` stands ahead of set `k` at `q`.
@@ -112,4 +116,27 @@ pub(crate) fn remove<P: PlaceKind>(
     let new_left = choose(goes_left, shorter, left);
     let new_right = choose(goes_left, right, shorter);
     rebalance(nodes, root, here, new_left, new_right)
+}
+
+// Takes `set`, which is present at `place`, out of the whole tree, marks its slot as not in use, and returns the new root.
+pub(crate) fn take_out<P: PlaceKind>(
+    nodes: &mut [Node<P, P::Region>],
+    root: u16,
+    set: u16,
+    place: P,
+) -> u16
+    requires shape { shaped nodes.old root ≡ true }
+    requires there { place_in nodes.old set ≡ Some place }
+    ensures shape { shaped nodes.new result ≡ true }
+    ensures view { Orderly P.PlaceKind.model nodes.old root → (j : ℕ) → place_in nodes.new j ≡ (if nat_eq j set then None else place_in nodes.old j) }
+    ensures others { (j : ℕ) → place_in nodes.old j ≡ None → slice_get nodes.new j ≡ slice_get nodes.old j }
+    ensures order { Orderly P.PlaceKind.model nodes.old root → Orderly P.PlaceKind.model nodes.new result × (row_in nodes.new result ≡ without set (row_in nodes.old root)) }
+{
+    ahead_laws::<P>();
+    let many = count_at(nodes, root);
+    let rest = remove(nodes, root, set, place);
+    if count_at(nodes, rest) != many {
+        clear(nodes, set);
+    }
+    rest
 }

@@ -1,6 +1,6 @@
 //! Ways down a tree: ranks, and joins over a run of ranks.
 ghost use Rattle.std.specs.Prelude.{◌≡◌, ◌<◌, ◌≤◌, List, ◌∷◌, take, drop};
-ghost use Rattle.buckets.specs.Rows.{Entry};
+ghost use Rattle.buckets.specs.declared.Entry.{Entry};
 ghost use Rattle.buckets.specs.Regions.{joined_with, region_of};
 ghost use Rattle.tree.specs.Slots.{at, count_of};
 ghost use Rattle.tree.specs.Tree.{Tree, row_of, Joined};
