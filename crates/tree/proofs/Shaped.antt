@@ -1,16 +1,15 @@
 -- What the tree over its slots holds by its type.
-use Rattle.std.proofs.Common.{◌≡◌, ℕ, ◌<◌, ◌≤◌, length, Some, refl, arith}
+use Rattle.std.proofs.Common.{◌≡◌, ℕ, ◌<◌, ◌≤◌, length, arith}
 use Rattle.kinds.specs.declared.kind.PlaceKind.{Ghosts}
 use Rattle.kinds.specs.Rules.{Model}
 use Rattle.tree.specs.declared.ranked_tree.RankedTree.{RankedTree}
 use Rattle.tree.specs.Contracted.{TreeAt}
 use Rattle.tree.specs.Slots.{at, count_of}
-use Rattle.tree.specs.Tree.{size}
 use Rattle.tree.specs.Whole.{tree_in, ShapeAt}
-use Rattle.tree.specs.View.{row_of, place_of}
+use Rattle.tree.specs.View.{row_of}
 use Rattle.tree.proofs.Held.{count_is}
 use Rattle.tree.proofs.Without.{length_row}
-use Rattle.tree.proofs.Shape.{shape_of, shape_few, shape_some}
+use Rattle.tree.proofs.Shape.{shape_of, shape_few}
 use Rattle.tree.proofs.Presence.{shape_tree_at}
 
 module _ {P R : Type 0} {g : Ghosts P R} (t : RankedTree P R g) where

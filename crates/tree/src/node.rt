@@ -10,3 +10,11 @@ pub struct Node<P, R> {
     pub count: u16,
     pub height: u8,
 }
+
+// What is given of a node: its place, and the slots of its two children, 0 where there is none.
+#[derive(Clone, Copy)]
+pub(crate) struct Branch<P> {
+    pub(crate) place: P,
+    pub(crate) left: u16,
+    pub(crate) right: u16,
+}

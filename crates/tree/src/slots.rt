@@ -5,7 +5,8 @@ ghost use Rattle.tree.specs.Slots.{at, height_of, count_of, left_child, right_ch
 ghost use Rattle.tree.specs.Tree.{Tree, linked};
 ghost use Rattle.tree.specs.Contracted.{Room, Two, TwoAt, Done};
 
-use crate::node::Node;
+use crate::node::{Branch, Node};
+use buckets::Entry;
 use kinds::PlaceKind;
 
 // How high the tree at `slot` is; 0 where there is none.
@@ -80,22 +81,36 @@ pub(crate) fn join_at<P: PlaceKind>(nodes: &[Node<P, P::Region>], slot: u16) -> 
     nodes[slot as usize].join
 }
 
-// Writes the node at `slot`, with what it has from its two children.
+// What is given of the node at a slot.
+pub(crate) fn branch_at<P: PlaceKind>(nodes: &[Node<P, P::Region>], slot: u16) -> Branch<P>
+    requires { (0 < slot) × (slot < length nodes.now) }
+    ensures place { held_place (at nodes.now slot) ≡ Some result.place }
+    ensures left { result.left ≡ left_child (at nodes.now slot) }
+    ensures right { result.right ≡ right_child (at nodes.now slot) }
+{
+    Branch {
+        place: place_at(nodes, slot),
+        left: left_at(nodes, slot),
+        right: right_at(nodes, slot),
+    }
+}
+
+// Writes the node of an entry, with what it has from its two children.
 pub(crate) fn link<P: PlaceKind>(
     nodes: &mut [Node<P, P::Region>],
-    slot: u16,
-    place: P,
+    entry: Entry<P>,
     left: u16,
     right: u16,
 )
-    requires { Room nodes.old slot left right }
-    ensures { nodes.new ≡ slice_set nodes.old slot (made P.PlaceKind.model nodes.old place left right) }
+    requires { Room nodes.old entry.set left right }
+    ensures { nodes.new ≡ slice_set nodes.old entry.set (made P.PlaceKind.model nodes.old entry.place left right) }
 {
+    let Entry { set, place } = entry;
     let height = 1 + height_at(nodes, left).max(height_at(nodes, right));
     let count = 1 + count_at(nodes, left) + count_at(nodes, right);
     let lower = joined_at(nodes, place.region(), left);
     let join = joined_at(nodes, lower, right);
-    nodes[slot as usize] = Node {
+    nodes[set as usize] = Node {
         place,
         join,
         left,
@@ -105,18 +120,17 @@ pub(crate) fn link<P: PlaceKind>(
     };
 }
 
-// The node at `slot`, over the trees at `left` and `right`.
+// The node of an entry, over the trees at `left` and `right`.
 pub(crate) fn plant<P: PlaceKind>(
     nodes: &mut [Node<P, P::Region>],
-    slot: u16,
-    place: P,
+    entry: Entry<P>,
     left: u16,
     right: u16,
 )
-    requires { Two nodes.old slot left right }
-    ensures { (l r : Tree P P.Region) → TwoAt nodes.old slot left right l r → Done nodes.old nodes.new slot (linked P.PlaceKind.model l slot place r) }
+    requires { Two nodes.old entry.set left right }
+    ensures { (l r : Tree P P.Region) → TwoAt nodes.old entry.set left right l r → Done nodes.old nodes.new entry.set (linked P.PlaceKind.model l entry.set entry.place r) }
 {
-    link(nodes, slot, place, left, right);
+    link(nodes, entry, left, right);
 }
 
 // Marks the slot as not in use.
@@ -140,11 +154,7 @@ pub(crate) fn clear<P: PlaceKind>(nodes: &mut [Node<P, P::Region>], slot: u16)
 pub(crate) fn limit<P: PlaceKind>(nodes: &[Node<P, P::Region>]) -> u16
     ensures { result ≡ min (length nodes.now) 4096 }
 {
-    if nodes.len() < 4096 {
-        nodes.len() as u16
-    } else {
-        4096
-    }
+    nodes.len().min(4096) as u16
 }
 
 // The first of two slots where the test holds, else the second.

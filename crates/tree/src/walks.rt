@@ -1,6 +1,5 @@
 //! Ways down a tree: ranks, and joins over a run of ranks.
 ghost use Rattle.std.specs.Prelude.{◌≡◌, ◌<◌, ◌≤◌, List, ◌∷◌, take, drop};
-ghost use Rattle.buckets.specs.declared.Entry.{Entry};
 ghost use Rattle.buckets.specs.Regions.{joined_with, region_of};
 ghost use Rattle.tree.specs.Slots.{at, count_of};
 ghost use Rattle.tree.specs.Tree.{Tree, row_of, Joined};
@@ -9,29 +8,32 @@ ghost use Rattle.tree.specs.Contracted.{Treed, TreeAt};
 
 use crate::changes::stands_ahead;
 use crate::node::Node;
-use crate::slots::{count_at, joined_at, left_at, place_at, right_at};
+use crate::slots::{branch_at, count_at, joined_at};
+use buckets::Entry;
 use kinds::PlaceKind;
 
-// How many entries of the tree at `root` come before `set` at `place`.
-pub(crate) fn rank<P: PlaceKind>(nodes: &[Node<P, P::Region>], root: u16, set: u16, place: P) -> u16
+// How many entries of the tree at `root` come before this one.
+pub(crate) fn rank<P: PlaceKind>(nodes: &[Node<P, P::Region>], root: u16, entry: Entry<P>) -> u16
     requires { Treed nodes.now root }
-    ensures { (t : Tree P P.Region) → TreeAt nodes.now root t → result ≡ ranked P.PlaceKind.model place set t }
+    ensures { (t : Tree P P.Region) → TreeAt nodes.now root t → result ≡ ranked P.PlaceKind.model entry.place entry.set t }
 {
     let mut slot = root;
     let mut before = 0;
     while slot != 0 {
-        let here = place_at(nodes, slot);
-        let left = left_at(nodes, slot);
-        let right = right_at(nodes, slot);
-        let lower = count_at(nodes, left);
-        if set == slot {
+        let here = branch_at(nodes, slot);
+        let lower = count_at(nodes, here.left);
+        if entry.set == slot {
             return before + lower;
         }
-        if stands_ahead(place, set, here, slot) {
-            slot = left;
+        let top = Entry {
+            set: slot,
+            place: here.place,
+        };
+        if stands_ahead(entry, top) {
+            slot = here.left;
         } else {
             before = before + lower + 1;
-            slot = right;
+            slot = here.right;
         }
     }
     before
@@ -51,17 +53,15 @@ pub(crate) fn suffix<P: PlaceKind>(
     let mut joined = base;
     let mut skip = first;
     while slot != 0 {
-        let here = place_at(nodes, slot);
-        let left = left_at(nodes, slot);
-        let right = right_at(nodes, slot);
-        let lower = count_at(nodes, left);
+        let here = branch_at(nodes, slot);
+        let lower = count_at(nodes, here.left);
         if skip > lower {
             skip = skip - lower - 1;
-            slot = right;
+            slot = here.right;
         } else {
-            let own = P::join(joined, here.region());
-            joined = joined_at(nodes, own, right);
-            slot = left;
+            let own = P::join(joined, here.place.region());
+            joined = joined_at(nodes, own, here.right);
+            slot = here.left;
         }
     }
     joined
@@ -81,17 +81,15 @@ pub(crate) fn prefix<P: PlaceKind>(
     let mut joined = base;
     let mut keep = end;
     while slot != 0 {
-        let here = place_at(nodes, slot);
-        let left = left_at(nodes, slot);
-        let right = right_at(nodes, slot);
-        let lower = count_at(nodes, left);
+        let here = branch_at(nodes, slot);
+        let lower = count_at(nodes, here.left);
         if keep <= lower {
-            slot = left;
+            slot = here.left;
         } else {
-            let own = P::join(joined, here.region());
-            joined = joined_at(nodes, own, left);
+            let own = P::join(joined, here.place.region());
+            joined = joined_at(nodes, own, here.left);
             keep = keep - lower - 1;
-            slot = right;
+            slot = here.right;
         }
     }
     joined
@@ -112,19 +110,17 @@ pub(crate) fn between<P: PlaceKind>(
     let mut skip = first;
     let mut keep = end;
     loop {
-        let here = place_at(nodes, slot);
-        let left = left_at(nodes, slot);
-        let right = right_at(nodes, slot);
-        let lower = count_at(nodes, left);
+        let here = branch_at(nodes, slot);
+        let lower = count_at(nodes, here.left);
         if keep <= lower {
-            slot = left;
+            slot = here.left;
         } else if skip > lower {
             skip = skip - lower - 1;
             keep = keep - lower - 1;
-            slot = right;
+            slot = here.right;
         } else {
-            let low = suffix(nodes, left, here.region(), skip);
-            return prefix(nodes, right, low, keep - lower - 1);
+            let low = suffix(nodes, here.left, here.place.region(), skip);
+            return prefix(nodes, here.right, low, keep - lower - 1);
         }
     }
 }

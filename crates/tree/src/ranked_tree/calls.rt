@@ -59,7 +59,7 @@ impl<'a, P: PlaceKind> RankedTree<'a, P> {
         ensures order { InOrder P.PlaceKind.model self.old → Admitted P.PlaceKind.model entry.place → InOrder P.PlaceKind.model self.new × (row_of self.new ≡ inserted P.PlaceKind.model entry (row_of self.old)) }
     {
         ahead_laws::<P>();
-        self.root = insert(self.slots, self.root, entry.set, entry.place);
+        self.root = insert(self.slots, self.root, entry);
     }
 
     /// Takes the entry of a set that is present out.
@@ -70,7 +70,7 @@ impl<'a, P: PlaceKind> RankedTree<'a, P> {
         ensures others { (j : ℕ) → place_of self.old j ≡ None → slot self.new j ≡ slot self.old j }
         ensures order { InOrder P.PlaceKind.model self.old → InOrder P.PlaceKind.model self.new × (row_of self.new ≡ without entry.set (row_of self.old)) }
     {
-        self.root = take_out(self.slots, self.root, entry.set, entry.place);
+        self.root = take_out(self.slots, self.root, entry);
     }
 
     /// Moves a set that is present to a place.
@@ -106,7 +106,7 @@ impl<'a, P: PlaceKind> RankedTree<'a, P> {
         ensures rank { InOrder P.PlaceKind.model self.now → result ≡ rank_of entry.set (row_of self.now) }
     {
         ahead_laws::<P>();
-        rank(self.slots, self.root, entry.set, entry.place)
+        rank(self.slots, self.root, entry)
     }
 
     /// The join of the regions of the entries from one rank to another.

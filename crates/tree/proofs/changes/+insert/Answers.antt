@@ -4,26 +4,20 @@ use Rattle.tree.proofs.changes.+insert.Goals as goal
 
 pub returns-then-root-eq0 : goal.returns-then-root-eq0
 returns-then-root-eq0 g t c =
-    λ u y. end_leaf g.P.PlaceKind.model c.args.place u c.if-root-eq0.true y
-    (c.plant.ensures _ _ (leaf_two g.P.PlaceKind.model c.args.place y))
+    λ u y. end_leaf g.P.PlaceKind.model c.args.entry.place u c.if-root-eq0.true y
+    (c.plant.ensures _ _ (leaf_two g.P.PlaceKind.model c.args.entry.place y))
 
-pub place_at-here-requires : goal.place_at-here-requires
-place_at-here-requires g t c = grow_root g.P.PlaceKind.model c.args.place c.requires.1 c.if-root-eq0.false
-
-pub left_at-left-requires : goal.left_at-left-requires
-left_at-left-requires g t c = grow_root g.P.PlaceKind.model c.args.place c.requires.1 c.if-root-eq0.false
-
-pub right_at-right-requires : goal.right_at-right-requires
-right_at-right-requires g t c = grow_root g.P.PlaceKind.model c.args.place c.requires.1 c.if-root-eq0.false
+pub branch_at-here-requires : goal.branch_at-here-requires
+branch_at-here-requires g t c = grow_root g.P.PlaceKind.model c.args.entry.place c.requires.1 c.if-root-eq0.false
 
 pub insert-longer-requires : goal.insert-longer-requires
 insert-longer-requires g t c κs within =
     let m = g.P.PlaceKind.model in
-    let p = c.args.place in
+    let p = c.args.entry.place in
     let b = c.stands_ahead-goes_left.result in
     let y = c.requires.1 in
-    let o = grow_open m p y c.if-root-eq0.false c.place_at-here.ensures c.left_at-left.ensures
-    c.right_at-right.ensures in (
+    let o = grow_open m p y c.if-root-eq0.false c.branch_at-here.ensures.place c.branch_at-here.ensures.left
+    c.branch_at-here.ensures.right in (
       fewer_child m p y o b c.choose-child.ensures _ c.decreases,
       (within.0, (within.1, (_, grow_child m p y o b c.choose-child.ensures))),
     )
@@ -31,27 +25,27 @@ insert-longer-requires g t c κs within =
 pub rebalance-requires : goal.rebalance-requires
 rebalance-requires g t c =
     let m = g.P.PlaceKind.model in
-    let p = c.args.place in
+    let p = c.args.entry.place in
     let b = c.stands_ahead-goes_left.result in
     let y = c.requires.1 in
-    let o = grow_open m p y c.if-root-eq0.false c.place_at-here.ensures c.left_at-left.ensures
-    c.right_at-right.ensures in
+    let o = grow_open m p y c.if-root-eq0.false c.branch_at-here.ensures.place c.branch_at-here.ensures.left
+    c.branch_at-here.ensures.right in
     let f = c.insert-longer.ensures _ (grow_child m p y o b c.choose-child.ensures) in (
       _,
       _,
-      after_child m p y o b _ c.insert-longer.result c.choose-new_left.ensures
-          c.choose-new_right.ensures (omega arith) f,
+      after_child m p y o b _ c.insert-longer.result c.choose-left.ensures
+          c.choose-right.ensures (omega arith) f,
     )
 
 pub returns : goal.returns
 returns g t c = λ u y.
     let m = g.P.PlaceKind.model in
-    let p = c.args.place in
+    let p = c.args.entry.place in
     let b = c.stands_ahead-goes_left.result in
-    let o = grow_open m p y c.if-root-eq0.false c.place_at-here.ensures c.left_at-left.ensures
-    c.right_at-right.ensures in
+    let o = grow_open m p y c.if-root-eq0.false c.branch_at-here.ensures.place c.branch_at-here.ensures.left
+    c.branch_at-here.ensures.right in
     let f = c.insert-longer.ensures _ (grow_child m p y o b c.choose-child.ensures) in
     end_child m p y o b (sym c.stands_ahead-goes_left.ensures) f
     (c.rebalance.ensures _ _
-    (after_child m p y o b _ c.insert-longer.result c.choose-new_left.ensures c.choose-new_right.ensures
+    (after_child m p y o b _ c.insert-longer.result c.choose-left.ensures c.choose-right.ensures
     (omega arith) f))

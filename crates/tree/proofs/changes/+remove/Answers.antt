@@ -5,39 +5,33 @@ use Rattle.tree.proofs.Shrinking.{smaller}
 use Rattle.tree.proofs.Removal.{tree_root, tree_open, tree_child, tree_pair, less_child, child_became, then_child, shrunk_here, shrunk_child}
 use Rattle.tree.proofs.changes.+remove.Goals as goal
 
-pub place_at-here-requires : goal.place_at-here-requires
-place_at-here-requires g t c = tree_root g.P.PlaceKind.model c.requires.1 (omega arith)
-
-pub left_at-left-requires : goal.left_at-left-requires
-left_at-left-requires g t c = tree_root g.P.PlaceKind.model c.requires.1 (omega arith)
-
-pub right_at-right-requires : goal.right_at-right-requires
-right_at-right-requires g t c = tree_root g.P.PlaceKind.model c.requires.1 (omega arith)
+pub branch_at-here-requires : goal.branch_at-here-requires
+branch_at-here-requires g t c = tree_root g.P.PlaceKind.model c.requires.1 (omega arith)
 
 pub fuse-requires : goal.fuse-requires
 fuse-requires g t c =
     let m = g.P.PlaceKind.model in
-    let o = tree_open m c.requires.1 (omega arith) c.place_at-here.ensures c.left_at-left.ensures
-    c.right_at-right.ensures in
+    let o = tree_open m c.requires.1 (omega arith) c.branch_at-here.ensures.place c.branch_at-here.ensures.left
+    c.branch_at-here.ensures.right in
     (_, _, tree_pair m c.requires.1 o)
 
-pub returns-then-set-root : goal.returns-then-set-root
-returns-then-set-root g t c = λ u y.
+pub returns-then-entry-root : goal.returns-then-entry-root
+returns-then-entry-root g t c = λ u y.
     let m = g.P.PlaceKind.model in
-    let o = tree_open m y (omega arith) c.place_at-here.ensures c.left_at-left.ensures
-    c.right_at-right.ensures in
-    done_at m (shrunk_here m c.args.place c.args.set u o c.if-set-root.true)
+    let o = tree_open m y (omega arith) c.branch_at-here.ensures.place c.branch_at-here.ensures.left
+    c.branch_at-here.ensures.right in
+    done_at m (shrunk_here m c.args.entry.place c.args.entry.set u o c.if-entry-root.true)
     (c.fuse.ensures _ _ (tree_pair m y o))
 
 pub remove-shorter-requires : goal.remove-shorter-requires
 remove-shorter-requires g t c κs within =
     let m = g.P.PlaceKind.model in
-    let p = c.args.place in
-    let s = c.args.set in
+    let p = c.args.entry.place in
+    let s = c.args.entry.set in
     let b = c.stands_ahead-goes_left.result in
     let y = c.requires.1 in
-    let o = tree_open m y (omega arith) c.place_at-here.ensures c.left_at-left.ensures
-    c.right_at-right.ensures in (
+    let o = tree_open m y (omega arith) c.branch_at-here.ensures.place c.branch_at-here.ensures.left
+    c.branch_at-here.ensures.right in (
       less_child m y o b c.choose-child.ensures _ c.decreases,
       (within.0, (within.1, (_, tree_child m y o b c.choose-child.ensures))),
     )
@@ -45,33 +39,33 @@ remove-shorter-requires g t c κs within =
 pub rebalance-requires : goal.rebalance-requires
 rebalance-requires g t c =
     let m = g.P.PlaceKind.model in
-    let p = c.args.place in
-    let s = c.args.set in
+    let p = c.args.entry.place in
+    let s = c.args.entry.set in
     let b = c.stands_ahead-goes_left.result in
     let y = c.requires.1 in
-    let o = tree_open m y (omega arith) c.place_at-here.ensures c.left_at-left.ensures
-    c.right_at-right.ensures in
+    let o = tree_open m y (omega arith) c.branch_at-here.ensures.place c.branch_at-here.ensures.left
+    c.branch_at-here.ensures.right in
     let z = tree_child m y o b c.choose-child.ensures in
     let v = shrunk m p s (cond b o.d o.e) in
     let w = smaller m p s (cond b o.d o.e) z.balanced in
     let f = c.remove-shorter.ensures _ z in
-    let e = child_became m y o b v _ c.remove-shorter.result c.choose-new_left.ensures
-    c.choose-new_right.ensures w (omega arith) f in
+    let e = child_became m y o b v _ c.remove-shorter.result c.choose-left.ensures
+    c.choose-right.ensures w (omega arith) f in
     (_, _, e)
 
 pub returns : goal.returns
 returns g t c = λ u y.
     let m = g.P.PlaceKind.model in
-    let p = c.args.place in
-    let s = c.args.set in
+    let p = c.args.entry.place in
+    let s = c.args.entry.set in
     let b = c.stands_ahead-goes_left.result in
-    let o = tree_open m y (omega arith) c.place_at-here.ensures c.left_at-left.ensures
-    c.right_at-right.ensures in
+    let o = tree_open m y (omega arith) c.branch_at-here.ensures.place c.branch_at-here.ensures.left
+    c.branch_at-here.ensures.right in
     let z = tree_child m y o b c.choose-child.ensures in
     let v = shrunk m p s (cond b o.d o.e) in
     let w = smaller m p s (cond b o.d o.e) z.balanced in
     let f = c.remove-shorter.ensures _ z in
-    let e = child_became m y o b v _ c.remove-shorter.result c.choose-new_left.ensures
-    c.choose-new_right.ensures w (omega arith) f in
-    done_at m (shrunk_child m p s u o b c.if-set-root.false (sym c.stands_ahead-goes_left.ensures))
-    (then_child m b o.d v o.e c.args.root c.place_at-here.result f (c.rebalance.ensures _ _ e))
+    let e = child_became m y o b v _ c.remove-shorter.result c.choose-left.ensures
+    c.choose-right.ensures w (omega arith) f in
+    done_at m (shrunk_child m p s u o b c.if-entry-root.false (sym c.stands_ahead-goes_left.ensures))
+    (then_child m b o.d v o.e c.args.root c.branch_at-here.result.place f (c.rebalance.ensures _ _ e))

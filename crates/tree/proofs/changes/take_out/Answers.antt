@@ -14,13 +14,13 @@ pub count_at-many-requires : goal.count_at-many-requires
 count_at-many-requires g c =
     let ns = c.args.nodes.now in
     let y = shape_of ns c.args.root c.requires.shape in
-    let r = in_room ns c.args.set c.args.place c.requires.there in
+    let r = in_room ns c.args.entry.set c.args.entry.place c.requires.there in
     root_in ns c.args.root _ y.root_is (omega arith) y.held
 
 pub remove-rest-requires : goal.remove-rest-requires
 remove-rest-requires g c =
     let ns = c.args.nodes.now in
-    let r = in_room ns c.args.set c.args.place c.requires.there in (
+    let r = in_room ns c.args.entry.set c.args.entry.place c.requires.there in (
       _,
       shape_tree_at g.P.PlaceKind.model ns c.args.root _ (shape_of ns c.args.root c.requires.shape)
           (omega arith),
@@ -30,7 +30,7 @@ pub count_at-requires : goal.count_at-requires
 count_at-requires g c =
     let m = g.P.PlaceKind.model in
     let ns = c.args.nodes.now in
-    let r = in_room ns c.args.set c.args.place c.requires.there in
+    let r = in_room ns c.args.entry.set c.args.entry.place c.requires.there in
     let pos : 0 < length ns = omega arith in
     let d = c.remove-rest.ensures _
     (shape_tree_at m ns c.args.root _ (shape_of ns c.args.root c.requires.shape) pos) in
@@ -44,26 +44,26 @@ returns-then-count_at-many g c =
     let end = c.clear.new.nodes in
     let root = c.args.root in
     let res = c.remove-rest.result in
-    let r = in_room ns c.args.set c.args.place c.requires.there in
+    let r = in_room ns c.args.entry.set c.args.entry.place c.requires.there in
     let pos : 0 < length ns = omega arith in
     let y = shape_of ns root c.requires.shape in
     let d = c.remove-rest.ensures _ (shape_tree_at m ns root _ y pos) in
     let a = count_is ns root c.count_at-many.result (tree_in ns root) y.root_is c.count_at-many.ensures
     y.held in
-    let b = count_is ms res c.count_at.result (shrunk m c.args.place c.args.set (tree_in ns root)) d.root
+    let b = count_is ms res c.count_at.result (shrunk m c.args.entry.place c.args.entry.set (tree_in ns root)) d.root
     c.count_at.ensures d.held in
-    let ne : size (shrunk m c.args.place c.args.set (tree_in ns root)) ≡ size (tree_in ns root) → ⊥ = λ e.
+    let ne : size (shrunk m c.args.entry.place c.args.entry.set (tree_in ns root)) ≡ size (tree_in ns root) → ⊥ = λ e.
     c.if-count_at-many.true (b ∙ e ∙ sym a) in
-    let w = was m c.args.set c.args.place y c.requires.there d ne in
+    let w = was m c.args.entry.set c.args.entry.place y c.requires.there d ne in
     let is = c.clear.ensures w.0 w.1 in
-    let z = subst (λ n. ShapeAt n res (shrunk m c.args.place c.args.set (tree_in ns root))) (sym is)
-    (shape_went m c.args.set c.args.place y c.requires.there d ne) in
+    let z = subst (λ n. ShapeAt n res (shrunk m c.args.entry.place c.args.entry.set (tree_in ns root))) (sym is)
+    (shape_went m c.args.entry.set c.args.entry.place y c.requires.there d ne) in
     record {
       shape = shape_made end res _ z;
-      view = λ ord. view_went m c.args.set c.args.place y c.requires.there d c.ahead_laws.ensures ord end z;
+      view = λ ord. view_went m c.args.entry.set c.args.entry.place y c.requires.there d c.ahead_laws.ensures ord end z;
       others = λ j none. ap (λ n. slice_get n j) is
-          ∙ others_went m c.args.set c.args.place y c.requires.there d (idle w.0) j (nowhere ns j none);
-      order = λ ord. order_went m c.args.set c.args.place y c.requires.there d c.ahead_laws.ensures ord end
+          ∙ others_went m c.args.entry.set c.args.entry.place y c.requires.there d (idle w.0) j (nowhere ns j none);
+      order = λ ord. order_went m c.args.entry.set c.args.entry.place y c.requires.there d c.ahead_laws.ensures ord end
           z;
     }
 
@@ -74,24 +74,23 @@ returns-else-count_at-many g c =
     let ms = c.remove-rest.new.nodes in
     let root = c.args.root in
     let res = c.remove-rest.result in
-    let r = in_room ns c.args.set c.args.place c.requires.there in
+    let r = in_room ns c.args.entry.set c.args.entry.place c.requires.there in
     let pos : 0 < length ns = omega arith in
     let y = shape_of ns root c.requires.shape in
     let unchanged = c.if-count_at-many.false in
     let d = c.remove-rest.ensures _ (shape_tree_at m ns root _ y pos) in
     let a = count_is ns root c.count_at-many.result (tree_in ns root) y.root_is c.count_at-many.ensures
     y.held in
-    let b = count_is ms res c.count_at.result (shrunk m c.args.place c.args.set (tree_in ns root)) d.root
+    let b = count_is ms res c.count_at.result (shrunk m c.args.entry.place c.args.entry.set (tree_in ns root)) d.root
     c.count_at.ensures d.held in
-    let same : size (shrunk m c.args.place c.args.set (tree_in ns root)) ≡ size (tree_in ns root) = sym b
+    let same : size (shrunk m c.args.entry.place c.args.entry.set (tree_in ns root)) ≡ size (tree_in ns root) = sym b
     ∙ unchanged ∙ a in
-    let z = shape_stays m c.args.set c.args.place y c.requires.there d same in
+    let z = shape_stays m c.args.entry.set c.args.entry.place y c.requires.there d same in
     record {
       shape = shape_made ms res _ z;
-      view = λ ord. absurd (found m c.args.set c.args.place y c.requires.there d c.ahead_laws.ensures ord
+      view = λ ord. absurd (found m c.args.entry.set c.args.entry.place y c.requires.there d c.ahead_laws.ensures ord
           same);
-      others = λ j none. others_stay m c.args.set c.args.place y c.requires.there d j (nowhere ns j none);
+      others = λ j none. others_stay m c.args.entry.set c.args.entry.place y c.requires.there d j (nowhere ns j none);
       order = λ ord. absurd
-          (found m c.args.set c.args.place y c.requires.there d c.ahead_laws.ensures ord same);
+          (found m c.args.entry.set c.args.entry.place y c.requires.there d c.ahead_laws.ensures ord same);
     }
-

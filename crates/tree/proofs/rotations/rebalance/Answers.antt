@@ -56,7 +56,7 @@ returns-then-low-high g c =
     c.height_at-low.ensures y.two.held_l in
     let hr = height_is c.args.nodes.now c.args.right c.height_at-high.result r y.two.right_is
     c.height_at-high.ensures y.two.held_r in
-    done_at m (even_right m l c.args.slot c.args.place r (omega (arith, c.if-low-high.true)))
+    done_at m (even_right m l c.args.entry.set c.args.entry.place r (omega (arith, c.if-low-high.true)))
     (c.rotate_right.ensures l r y)
 
 pub returns-then-high-low : goal.returns-then-high-low
@@ -67,7 +67,7 @@ returns-then-high-low g c =
     c.height_at-low.ensures y.two.held_l in
     let hr = height_is c.args.nodes.now c.args.right c.height_at-high.result r y.two.right_is
     c.height_at-high.ensures y.two.held_r in
-    done_at m (even_left m l c.args.slot c.args.place r (omega (arith, c.if-high-low.true)))
+    done_at m (even_left m l c.args.entry.set c.args.entry.place r (omega (arith, c.if-high-low.true)))
     (c.rotate_left.ensures l r y)
 
 pub returns-else-high-low : goal.returns-else-high-low
@@ -78,5 +78,5 @@ returns-else-high-low g c =
     c.height_at-low.ensures y.two.held_l in
     let hr = height_is c.args.nodes.now c.args.right c.height_at-high.result r y.two.right_is
     c.height_at-high.ensures y.two.held_r in
-    done_at m (even_plain m l c.args.slot c.args.place r (omega (arith, c.if-low-high.false))
+    done_at m (even_plain m l c.args.entry.set c.args.entry.place r (omega (arith, c.if-low-high.false))
     (omega (arith, c.if-high-low.false))) (c.plant.ensures l r y.two)

@@ -8,8 +8,8 @@ height_at-requires g c =
     let m = g.P.PlaceKind.model in
     let y = c.requires.even.2 in
     let ns = c.args.nodes.now in
-    let o = open_right m y c.requires.some.0 c.place_at-below.ensures c.left_at-inner.ensures
-    c.right_at-outer.ensures in
+    let o = open_right m y c.requires.some.0 c.branch_at-below.ensures.place c.branch_at-below.ensures.left
+    c.branch_at-below.ensures.right in
     let z = three_right m y c.requires.some o in
     root_in ns _ o.e z.c_is (omega arith) z.held_c
 
@@ -18,8 +18,8 @@ height_at-requires-2 g c =
     let m = g.P.PlaceKind.model in
     let y = c.requires.even.2 in
     let ns = c.args.nodes.now in
-    let o = open_right m y c.requires.some.0 c.place_at-below.ensures c.left_at-inner.ensures
-    c.right_at-outer.ensures in
+    let o = open_right m y c.requires.some.0 c.branch_at-below.ensures.place c.branch_at-below.ensures.left
+    c.branch_at-below.ensures.right in
     let z = three_right m y c.requires.some o in
     root_in ns _ o.d z.b_is (omega arith) z.held_b
 
@@ -28,14 +28,14 @@ rotate_twice-requires g c =
     let m = g.P.PlaceKind.model in
     let y = c.requires.even.2 in
     let ns = c.args.nodes.now in
-    let o = open_right m y c.requires.some.0 c.place_at-below.ensures c.left_at-inner.ensures
-    c.right_at-outer.ensures in
+    let o = open_right m y c.requires.some.0 c.branch_at-below.ensures.place c.branch_at-below.ensures.left
+    c.branch_at-below.ensures.right in
     let z = three_right m y c.requires.some o in
-    let he = height_is ns c.left_at-inner.result c.height_at-2.result o.d z.b_is c.height_at-2.ensures
+    let he = height_is ns c.branch_at-below.result.left c.height_at-2.result o.d z.b_is c.height_at-2.ensures
     z.held_b in
     record {
       three = (_, _, _, z);
-      some = tall_root o.d ns c.left_at-inner.result z.b_is z.held_b
+      some = tall_root o.d ns c.branch_at-below.result.left z.b_is z.held_b
           (omega (arith, he, c.if-height_at.true));
     }
 
@@ -44,8 +44,8 @@ rotate_once_left-requires g c =
     let m = g.P.PlaceKind.model in
     let y = c.requires.even.2 in
     let ns = c.args.nodes.now in
-    let o = open_right m y c.requires.some.0 c.place_at-below.ensures c.left_at-inner.ensures
-    c.right_at-outer.ensures in
+    let o = open_right m y c.requires.some.0 c.branch_at-below.ensures.place c.branch_at-below.ensures.left
+    c.branch_at-below.ensures.right in
     let z = three_right m y c.requires.some o in
     (_, _, _, z)
 
@@ -54,14 +54,14 @@ returns-then-height_at g c =
     λ l r y.
     let m = g.P.PlaceKind.model in
     let ns = c.args.nodes.now in
-    let o = open_right m y c.requires.some.0 c.place_at-below.ensures c.left_at-inner.ensures
-    c.right_at-outer.ensures in
+    let o = open_right m y c.requires.some.0 c.branch_at-below.ensures.place c.branch_at-below.ensures.left
+    c.branch_at-below.ensures.right in
     let z = three_right m y c.requires.some o in
-    let hd = height_is ns c.right_at-outer.result c.height_at.result o.e z.c_is c.height_at.ensures
+    let hd = height_is ns c.branch_at-below.result.right c.height_at.result o.e z.c_is c.height_at.ensures
     z.held_c in
-    let he = height_is ns c.left_at-inner.result c.height_at-2.result o.d z.b_is c.height_at-2.ensures
+    let he = height_is ns c.branch_at-below.result.left c.height_at-2.result o.d z.b_is c.height_at-2.ensures
     z.held_b in
-    done_at m (left_is_both m r o l c.args.slot c.args.place (omega (arith, hd, he, c.if-height_at.true)))
+    done_at m (left_is_both m r o l c.args.entry.set c.args.entry.place (omega (arith, hd, he, c.if-height_at.true)))
     (c.rotate_twice.ensures _ _ _ z)
 
 pub returns-else-height_at : goal.returns-else-height_at
@@ -69,12 +69,12 @@ returns-else-height_at g c =
     λ l r y.
     let m = g.P.PlaceKind.model in
     let ns = c.args.nodes.now in
-    let o = open_right m y c.requires.some.0 c.place_at-below.ensures c.left_at-inner.ensures
-    c.right_at-outer.ensures in
+    let o = open_right m y c.requires.some.0 c.branch_at-below.ensures.place c.branch_at-below.ensures.left
+    c.branch_at-below.ensures.right in
     let z = three_right m y c.requires.some o in
-    let hd = height_is ns c.right_at-outer.result c.height_at.result o.e z.c_is c.height_at.ensures
+    let hd = height_is ns c.branch_at-below.result.right c.height_at.result o.e z.c_is c.height_at.ensures
     z.held_c in
-    let he = height_is ns c.left_at-inner.result c.height_at-2.result o.d z.b_is c.height_at-2.ensures
+    let he = height_is ns c.branch_at-below.result.left c.height_at-2.result o.d z.b_is c.height_at-2.ensures
     z.held_b in
-    done_at m (left_is_once m r o l c.args.slot c.args.place (omega (arith, hd, he, c.if-height_at.false)))
+    done_at m (left_is_once m r o l c.args.entry.set c.args.entry.place (omega (arith, hd, he, c.if-height_at.false)))
     (c.rotate_once_left.ensures _ _ _ z)

@@ -13,22 +13,8 @@ loop-keep-init g c =
           c.requires.range.1;
     }
 
-pub place_at-here-requires : goal.place_at-here-requires
-place_at-here-requires g c =
-    let m = g.P.PlaceKind.model in
-    let w = c.loop-keep.invariant in
-    let laws = g.met.P.PlaceKind.lawful in
-    tree_root m (w.way _ c.requires.treed.1).held (run_root m laws w c.requires.treed.1)
-
-pub left_at-left-requires : goal.left_at-left-requires
-left_at-left-requires g c =
-    let m = g.P.PlaceKind.model in
-    let w = c.loop-keep.invariant in
-    let laws = g.met.P.PlaceKind.lawful in
-    tree_root m (w.way _ c.requires.treed.1).held (run_root m laws w c.requires.treed.1)
-
-pub right_at-right-requires : goal.right_at-right-requires
-right_at-right-requires g c =
+pub branch_at-here-requires : goal.branch_at-here-requires
+branch_at-here-requires g c =
     let m = g.P.PlaceKind.model in
     let w = c.loop-keep.invariant in
     let laws = g.met.P.PlaceKind.lawful in
@@ -41,8 +27,8 @@ count_at-lower-requires g c =
     let laws = g.met.P.PlaceKind.lawful in
     let y = c.requires.treed.1 in
     let v = w.way _ y in
-    let o = tree_open m v.held (run_root m laws w y) c.place_at-here.ensures c.left_at-left.ensures
-    c.right_at-right.ensures in
+    let o = tree_open m v.held (run_root m laws w y) c.branch_at-here.ensures.place c.branch_at-here.ensures.left
+    c.branch_at-here.ensures.right in
     left_in m v.held o
 
 pub loop-keep-smaller-then-keep-lower : goal.loop-keep-smaller-then-keep-lower
@@ -52,8 +38,8 @@ loop-keep-smaller-then-keep-lower g c =
     let laws = g.met.P.PlaceKind.lawful in
     let y = c.requires.treed.1 in
     let v = w.way _ y in
-    let o = tree_open m v.held (run_root m laws w y) c.place_at-here.ensures c.left_at-left.ensures
-    c.right_at-right.ensures in
+    let o = tree_open m v.held (run_root m laws w y) c.branch_at-here.ensures.place c.branch_at-here.ensures.left
+    c.branch_at-here.ensures.right in
     less_left m v.held o _ refl
 
 pub loop-keep-preserved-then-keep-lower : goal.loop-keep-preserved-then-keep-lower
@@ -62,8 +48,8 @@ loop-keep-preserved-then-keep-lower g c =
     let w = c.loop-keep.invariant in
     let laws = g.met.P.PlaceKind.lawful in
     run_step_left m laws w
-    (λ t y. tree_open m (w.way t y).held (run_root m laws w y) c.place_at-here.ensures
-    c.left_at-left.ensures c.right_at-right.ensures) c.count_at-lower.ensures c.if-keep-lower.true
+    (λ t y. tree_open m (w.way t y).held (run_root m laws w y) c.branch_at-here.ensures.place
+    c.branch_at-here.ensures.left c.branch_at-here.ensures.right) c.count_at-lower.ensures c.if-keep-lower.true
 
 pub loop-keep-smaller : goal.loop-keep-smaller
 loop-keep-smaller g c =
@@ -72,8 +58,8 @@ loop-keep-smaller g c =
     let laws = g.met.P.PlaceKind.lawful in
     let y = c.requires.treed.1 in
     let v = w.way _ y in
-    let o = tree_open m v.held (run_root m laws w y) c.place_at-here.ensures c.left_at-left.ensures
-    c.right_at-right.ensures in
+    let o = tree_open m v.held (run_root m laws w y) c.branch_at-here.ensures.place c.branch_at-here.ensures.left
+    c.branch_at-here.ensures.right in
     less_right m v.held o _ refl
 
 pub loop-keep-preserved : goal.loop-keep-preserved
@@ -82,8 +68,8 @@ loop-keep-preserved g c =
     let w = c.loop-keep.invariant in
     let laws = g.met.P.PlaceKind.lawful in
     run_step_right m laws w
-    (λ t y. tree_open m (w.way t y).held (run_root m laws w y) c.place_at-here.ensures
-    c.left_at-left.ensures c.right_at-right.ensures) c.count_at-lower.ensures c.requires.treed.1
+    (λ t y. tree_open m (w.way t y).held (run_root m laws w y) c.branch_at-here.ensures.place
+    c.branch_at-here.ensures.left c.branch_at-here.ensures.right) c.count_at-lower.ensures c.requires.treed.1
     c.if-skip-lower.true
 
 pub suffix-low-requires : goal.suffix-low-requires
@@ -93,8 +79,8 @@ suffix-low-requires g c =
     let laws = g.met.P.PlaceKind.lawful in
     let y = c.requires.treed.1 in
     let v = w.way _ y in
-    let o = tree_open m v.held (run_root m laws w y) c.place_at-here.ensures c.left_at-left.ensures
-    c.right_at-right.ensures in
+    let o = tree_open m v.held (run_root m laws w y) c.branch_at-here.ensures.place c.branch_at-here.ensures.left
+    c.branch_at-here.ensures.right in
     (o.d, tree_left m v.held o)
 
 pub prefix-requires : goal.prefix-requires
@@ -104,8 +90,8 @@ prefix-requires g c =
     let laws = g.met.P.PlaceKind.lawful in
     let y = c.requires.treed.1 in
     let v = w.way _ y in
-    let o = tree_open m v.held (run_root m laws w y) c.place_at-here.ensures c.left_at-left.ensures
-    c.right_at-right.ensures in
+    let o = tree_open m v.held (run_root m laws w y) c.branch_at-here.ensures.place c.branch_at-here.ensures.left
+    c.branch_at-here.ensures.right in
     (o.e, tree_right m v.held o)
 
 pub returns-else-skip-lower : goal.returns-else-skip-lower
@@ -114,8 +100,8 @@ returns-else-skip-lower g c = λ t y h e es parts.
     let w = c.loop-keep.invariant in
     let laws = g.met.P.PlaceKind.lawful in
     let v = w.way t y in
-    let o = tree_open m v.held (run_root m laws w y) c.place_at-here.ensures c.left_at-left.ensures
-    c.right_at-right.ensures in
+    let o = tree_open m v.held (run_root m laws w y) c.branch_at-here.ensures.place c.branch_at-here.ensures.left
+    c.branch_at-here.ensures.right in
     between_mid m v.held o laws c.count_at-lower.result c.loop-keep.skip c.loop-keep.keep
     c.region.result c.suffix-low.result _ e es c.count_at-lower.ensures c.if-skip-lower.false
     (omega (arith, c.if-keep-lower.false)) c.region.ensures

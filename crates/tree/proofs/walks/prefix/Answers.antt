@@ -7,61 +7,55 @@ use Rattle.tree.proofs.walks.prefix.Goals as goal
 pub loop-slot-init : goal.loop-slot-init
 loop-slot-init g c = λ t y. record { rest = t; held = y; joined = λ h. h; same = λ h. refl }
 
-pub place_at-here-requires : goal.place_at-here-requires
-place_at-here-requires g c = tree_root g.P.PlaceKind.model (c.loop-slot.invariant _ c.requires.1).held (omega arith)
-
-pub left_at-left-requires : goal.left_at-left-requires
-left_at-left-requires g c = tree_root g.P.PlaceKind.model (c.loop-slot.invariant _ c.requires.1).held (omega arith)
-
-pub right_at-right-requires : goal.right_at-right-requires
-right_at-right-requires g c = tree_root g.P.PlaceKind.model (c.loop-slot.invariant _ c.requires.1).held (omega arith)
+pub branch_at-here-requires : goal.branch_at-here-requires
+branch_at-here-requires g c = tree_root g.P.PlaceKind.model (c.loop-slot.invariant _ c.requires.1).held (omega arith)
 
 pub count_at-lower-requires : goal.count_at-lower-requires
 count_at-lower-requires g c =
     let m = g.P.PlaceKind.model in
     let w = c.loop-slot.invariant _ c.requires.1 in
-    let o = tree_open m w.held (omega arith) c.place_at-here.ensures c.left_at-left.ensures
-    c.right_at-right.ensures in
+    let o = tree_open m w.held (omega arith) c.branch_at-here.ensures.place c.branch_at-here.ensures.left
+    c.branch_at-here.ensures.right in
     left_in m w.held o
 
 pub loop-slot-smaller-then-keep-lower : goal.loop-slot-smaller-then-keep-lower
 loop-slot-smaller-then-keep-lower g c =
     let m = g.P.PlaceKind.model in
     let w = c.loop-slot.invariant _ c.requires.1 in
-    let o = tree_open m w.held (omega arith) c.place_at-here.ensures c.left_at-left.ensures
-    c.right_at-right.ensures in
+    let o = tree_open m w.held (omega arith) c.branch_at-here.ensures.place c.branch_at-here.ensures.left
+    c.branch_at-here.ensures.right in
     less_left m w.held o _ refl
 
 pub loop-slot-preserved-then-keep-lower : goal.loop-slot-preserved-then-keep-lower
 loop-slot-preserved-then-keep-lower g c = λ t y.
     let m = g.P.PlaceKind.model in
     let w = c.loop-slot.invariant t y in
-    let o = tree_open m w.held (omega arith) c.place_at-here.ensures c.left_at-left.ensures
-    c.right_at-right.ensures in
+    let o = tree_open m w.held (omega arith) c.branch_at-here.ensures.place c.branch_at-here.ensures.left
+    c.branch_at-here.ensures.right in
     prefix_step_left m g.met.P.PlaceKind.lawful w o c.count_at-lower.ensures c.if-keep-lower.true
 
 pub joined_at-joined-requires : goal.joined_at-joined-requires
 joined_at-joined-requires g c =
     let m = g.P.PlaceKind.model in
     let w = c.loop-slot.invariant _ c.requires.1 in
-    let o = tree_open m w.held (omega arith) c.place_at-here.ensures c.left_at-left.ensures
-    c.right_at-right.ensures in
+    let o = tree_open m w.held (omega arith) c.branch_at-here.ensures.place c.branch_at-here.ensures.left
+    c.branch_at-here.ensures.right in
     left_in m w.held o
 
 pub loop-slot-smaller : goal.loop-slot-smaller
 loop-slot-smaller g c =
     let m = g.P.PlaceKind.model in
     let w = c.loop-slot.invariant _ c.requires.1 in
-    let o = tree_open m w.held (omega arith) c.place_at-here.ensures c.left_at-left.ensures
-    c.right_at-right.ensures in
+    let o = tree_open m w.held (omega arith) c.branch_at-here.ensures.place c.branch_at-here.ensures.left
+    c.branch_at-here.ensures.right in
     less_right m w.held o _ refl
 
 pub loop-slot-preserved : goal.loop-slot-preserved
 loop-slot-preserved g c = λ t y.
     let m = g.P.PlaceKind.model in
     let w = c.loop-slot.invariant t y in
-    let o = tree_open m w.held (omega arith) c.place_at-here.ensures c.left_at-left.ensures
-    c.right_at-right.ensures in
+    let o = tree_open m w.held (omega arith) c.branch_at-here.ensures.place c.branch_at-here.ensures.left
+    c.branch_at-here.ensures.right in
     prefix_step_right m g.met.P.PlaceKind.lawful w o c.count_at-lower.ensures c.if-keep-lower.false
     (c.join-own.ensures ∙ ap (m.joined c.loop-slot.joined) c.region.ensures)
     c.joined_at-joined.ensures

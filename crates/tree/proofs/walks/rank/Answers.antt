@@ -7,92 +7,86 @@ use Rattle.tree.proofs.walks.rank.Goals as goal
 pub loop-slot-init : goal.loop-slot-init
 loop-slot-init g c = λ t y. record { rest = t; held = y; same = omega arith; few = omega arith }
 
-pub place_at-here-requires : goal.place_at-here-requires
-place_at-here-requires g c = tree_root g.P.PlaceKind.model (c.loop-slot.invariant _ c.requires.1).held (omega arith)
-
-pub left_at-left-requires : goal.left_at-left-requires
-left_at-left-requires g c = tree_root g.P.PlaceKind.model (c.loop-slot.invariant _ c.requires.1).held (omega arith)
-
-pub right_at-right-requires : goal.right_at-right-requires
-right_at-right-requires g c = tree_root g.P.PlaceKind.model (c.loop-slot.invariant _ c.requires.1).held (omega arith)
+pub branch_at-here-requires : goal.branch_at-here-requires
+branch_at-here-requires g c = tree_root g.P.PlaceKind.model (c.loop-slot.invariant _ c.requires.1).held (omega arith)
 
 pub count_at-lower-requires : goal.count_at-lower-requires
 count_at-lower-requires g c =
     let m = g.P.PlaceKind.model in
     let w = c.loop-slot.invariant _ c.requires.1 in
-    let o = tree_open m w.held (omega arith) c.place_at-here.ensures c.left_at-left.ensures
-    c.right_at-right.ensures in
+    let o = tree_open m w.held (omega arith) c.branch_at-here.ensures.place c.branch_at-here.ensures.left
+    c.branch_at-here.ensures.right in
     left_in m w.held o
 
 pub overflow_add-result : goal.overflow_add-result
 overflow_add-result g c =
     let m = g.P.PlaceKind.model in
     let w = c.loop-slot.invariant _ c.requires.1 in
-    let o = tree_open m w.held (omega arith) c.place_at-here.ensures c.left_at-left.ensures
-    c.right_at-right.ensures in
-    let few = rank_few m c.args.place c.args.set w o c.count_at-lower.ensures c.requires.1.few in
+    let o = tree_open m w.held (omega arith) c.branch_at-here.ensures.place c.branch_at-here.ensures.left
+    c.branch_at-here.ensures.right in
+    let few = rank_few m c.args.entry.place c.args.entry.set w o c.count_at-lower.ensures c.requires.1.few in
     omega arith
 
-pub returns-then-set-slot : goal.returns-then-set-slot
-returns-then-set-slot g c = λ t y.
+pub returns-then-entry-slot : goal.returns-then-entry-slot
+returns-then-entry-slot g c = λ t y.
     let m = g.P.PlaceKind.model in
     let w = c.loop-slot.invariant t y in
-    let o = tree_open m w.held (omega arith) c.place_at-here.ensures c.left_at-left.ensures
-    c.right_at-right.ensures in
-    rank_found m c.args.place c.args.set w o c.count_at-lower.ensures c.if-set-slot.true
+    let o = tree_open m w.held (omega arith) c.branch_at-here.ensures.place c.branch_at-here.ensures.left
+    c.branch_at-here.ensures.right in
+    rank_found m c.args.entry.place c.args.entry.set w o c.count_at-lower.ensures c.if-entry-slot.true
 
 pub loop-slot-smaller-then-stands_ahead : goal.loop-slot-smaller-then-stands_ahead
 loop-slot-smaller-then-stands_ahead g c =
     let m = g.P.PlaceKind.model in
     let w = c.loop-slot.invariant _ c.requires.1 in
-    let o = tree_open m w.held (omega arith) c.place_at-here.ensures c.left_at-left.ensures
-    c.right_at-right.ensures in
+    let o = tree_open m w.held (omega arith) c.branch_at-here.ensures.place c.branch_at-here.ensures.left
+    c.branch_at-here.ensures.right in
     less_left m w.held o _ refl
 
 pub loop-slot-preserved-then-stands_ahead : goal.loop-slot-preserved-then-stands_ahead
 loop-slot-preserved-then-stands_ahead g c = λ t y.
     let m = g.P.PlaceKind.model in
     let w = c.loop-slot.invariant t y in
-    let o = tree_open m w.held (omega arith) c.place_at-here.ensures c.left_at-left.ensures
-    c.right_at-right.ensures in
-    rank_step_left m c.args.place c.args.set w o c.count_at-lower.ensures c.if-set-slot.false
+    let o = tree_open m w.held (omega arith) c.branch_at-here.ensures.place c.branch_at-here.ensures.left
+    c.branch_at-here.ensures.right in
+    rank_step_left m c.args.entry.place c.args.entry.set w o c.count_at-lower.ensures c.if-entry-slot.false
     (sym c.if-stands_ahead.ensures)
 
 pub overflow_add-before : goal.overflow_add-before
 overflow_add-before g c =
     let m = g.P.PlaceKind.model in
     let w = c.loop-slot.invariant _ c.requires.1 in
-    let o = tree_open m w.held (omega arith) c.place_at-here.ensures c.left_at-left.ensures
-    c.right_at-right.ensures in
-    let few = rank_few m c.args.place c.args.set w o c.count_at-lower.ensures c.requires.1.few in
+    let o = tree_open m w.held (omega arith) c.branch_at-here.ensures.place c.branch_at-here.ensures.left
+    c.branch_at-here.ensures.right in
+    let few = rank_few m c.args.entry.place c.args.entry.set w o c.count_at-lower.ensures c.requires.1.few in
     omega arith
 
 pub overflow_add-before-else-stands_ahead : goal.overflow_add-before-else-stands_ahead
 overflow_add-before-else-stands_ahead g c =
     let m = g.P.PlaceKind.model in
     let w = c.loop-slot.invariant _ c.requires.1 in
-    let o = tree_open m w.held (omega arith) c.place_at-here.ensures c.left_at-left.ensures
-    c.right_at-right.ensures in
-    let few = rank_few m c.args.place c.args.set w o c.count_at-lower.ensures c.requires.1.few in
+    let o = tree_open m w.held (omega arith) c.branch_at-here.ensures.place c.branch_at-here.ensures.left
+    c.branch_at-here.ensures.right in
+    let few = rank_few m c.args.entry.place c.args.entry.set w o c.count_at-lower.ensures c.requires.1.few in
     omega arith
 
 pub loop-slot-smaller : goal.loop-slot-smaller
 loop-slot-smaller g c =
     let m = g.P.PlaceKind.model in
     let w = c.loop-slot.invariant _ c.requires.1 in
-    let o = tree_open m w.held (omega arith) c.place_at-here.ensures c.left_at-left.ensures
-    c.right_at-right.ensures in
+    let o = tree_open m w.held (omega arith) c.branch_at-here.ensures.place c.branch_at-here.ensures.left
+    c.branch_at-here.ensures.right in
     less_right m w.held o _ refl
 
 pub loop-slot-preserved : goal.loop-slot-preserved
 loop-slot-preserved g c = λ t y.
     let m = g.P.PlaceKind.model in
     let w = c.loop-slot.invariant t y in
-    let o = tree_open m w.held (omega arith) c.place_at-here.ensures c.left_at-left.ensures
-    c.right_at-right.ensures in
-    rank_step_right m c.args.place c.args.set w o c.count_at-lower.ensures c.if-set-slot.false
+    let o = tree_open m w.held (omega arith) c.branch_at-here.ensures.place c.branch_at-here.ensures.left
+    c.branch_at-here.ensures.right in
+    rank_step_right m c.args.entry.place c.args.entry.set w o c.count_at-lower.ensures c.if-entry-slot.false
     (sym c.if-stands_ahead.ensures)
 
 pub returns : goal.returns
 returns g c =
-    λ t y. rank_end g.P.PlaceKind.model c.args.place c.args.set (c.loop-slot.invariant t y) (omega arith)
+    λ t y. rank_end g.P.PlaceKind.model c.args.entry.place c.args.entry.set (c.loop-slot.invariant t y) (omega arith)
