@@ -1,3 +1,2 @@
-mod Apart
 mod Buckets
 mod TreeRow

@@ -1,14 +1,14 @@
--- Every place at which a set is present is admitted, where the tree is in order.
+-- The row of the tree is the row of the sets that are present.
 use Rattle.std.proofs.Common.{◌≡◌, ℕ, Bool, true, false, cond, eqb, List, [], ◌∷◌, Some, sym, refl, ap, ◌∙◌, subst, arith}
 use Rattle.std.proofs.lemmas.Bool.Decides.{nat_tests}
 use Rattle.kinds.specs.Rules.{Model}
 use Rattle.buckets.specs.Rows.{entry, In, here, later, RowLaws, PlacesAdmitted, IsRow}
 use Rattle.buckets.specs.declared.Entry.{Entry}
 use Rattle.tree.specs.Rows.{find}
-use Rattle.tree.specs.Whole.{row_in}
+use Rattle.tree.specs.View as trees
 use Rattle.kinds.specs.declared.kind.PlaceKind.{Ghosts}
 use Rattle.register.specs.declared.register.Register.{Register}
-use Rattle.register.specs.View.{capacity_of, place_of, InOrder, row_of, TreeRowRight}
+use Rattle.register.specs.View.{capacity_of, place_of, row_of, TreeRowRight}
 
 module _ {P : Type 0} where
   found_in : (n : ℕ) (es : List (Entry P)) (p : P) → find n es ≡ Some p → In (entry n p) es
@@ -25,14 +25,13 @@ module _ {P : Type 0} where
       go false x w deep = later (deep w)
 
 module _ {P R : Type 0} {g : Ghosts P R} (m : Model P R) (self : Register P R g) where
-  pub tree_row : RowLaws m → (InOrder m self → row_in self.slots.now self.root ≡ row_of m self)
-      → ((j : ℕ) → find j (row_in self.slots.now self.root) ≡ place_of self j) → InOrder m self
-      → TreeRowRight m self
-  tree_row laws same view o =
+  pub tree_row : RowLaws m → trees.InOrder m self.tree → trees.row_of self.tree ≡ row_of m self
+      → ((j : ℕ) → find j (trees.row_of self.tree) ≡ place_of self j) → TreeRowRight m self
+  tree_row laws o same view =
       let admitted : PlacesAdmitted m (place_of self) =
-      λ n p at. o.admitted (entry n p) (found_in n (row_in self.slots.now self.root) p (view n ∙ at)) in
+      λ n p at. o.admitted (entry n p) (found_in n (trees.row_of self.tree) p (view n ∙ at)) in
       record {
-        same = same o;
-        is_row = subst (IsRow m (place_of self) (capacity_of self)) (sym (same o))
+        same = same;
+        is_row = subst (IsRow m (place_of self) (capacity_of self)) (sym same)
             (laws.row_is (place_of self) (capacity_of self) admitted);
       }

@@ -57,15 +57,11 @@ pub(crate) fn rotate_twice<P: PlaceKind>(
     let middle = branch_at(nodes, b);
     plant(nodes, s, a, middle.left);
     plant(nodes, k, middle.right, c);
-    plant(
-        nodes,
-        Entry {
-            set: b,
-            place: middle.place,
-        },
-        s.set,
-        k.set,
-    );
+    let top = Entry {
+        set: b,
+        place: middle.place,
+    };
+    plant(nodes, top, s.set, k.set);
 }
 
 // `entry` over the trees at `left` and `right`, of which the left one is too high.

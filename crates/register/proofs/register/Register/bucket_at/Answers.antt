@@ -7,19 +7,23 @@ use Rattle.register.proofs.Buckets.{bucket_told, bucket_none, rank_within}
 use Rattle.register.proofs.register.Register.bucket_at.Goals as goal
 
 pub returns-in_default : goal.returns-in_default
-returns-in_default g c o =
+returns-in_default g c =
     let m = g.P.PlaceKind.model in
-    let row = row_of m c.args.self.now in
-    let found : find c.args.set row ≡ Some c.args.place =
-    subst (λ es. find c.args.set es ≡ Some c.args.place) (c.one_row.ensures o)
-    ((c.count-count.ensures.row c.args.set).0 ∙ c.requires.there) in
-    bucket_none m row c.args.set c.args.size (rank_of c.args.set row) c.requires.size
-    (rank_within c.args.set row c.args.place found) (c.in_default.ensures.value o)
+    let r = c.args.self.now in
+    let row = row_of m r in
+    let n = c.args.entry.set in
+    let found : find n row ≡ Some c.args.entry.place =
+    subst (λ es. find n es ≡ Some c.args.entry.place) (c.one_row.ensures r.order)
+    ((c.count-count.ensures.row n).0 ∙ c.requires.there) in
+    bucket_none m row n c.args.size (rank_of n row) c.requires.size
+    (rank_within n row c.args.entry.place found) c.in_default.ensures.value
 
 pub returns : goal.returns
-returns g c o =
+returns g c =
     let m = g.P.PlaceKind.model in
-    let row = row_of m c.args.self.now in
-    bucket_told m c.bucket_laws.ensures row c.args.set c.args.size (rank_of c.args.set row)
-    c.in-Some.ends c.covers-region.result refl (c.in-Some.ensures.value o)
-    (λ x xs h. c.covers-region.ensures o x xs (ap (members c.in-Some.ends) (c.one_row.ensures o) ∙ h))
+    let r = c.args.self.now in
+    let row = row_of m r in
+    let n = c.args.entry.set in
+    bucket_told m c.bucket_laws.ensures row n c.args.size (rank_of n row)
+    c.in-Some.ends c.covers-region.result refl c.in-Some.ensures.value
+    (λ x xs h. c.covers-region.ensures r.order x xs (ap (members c.in-Some.ends) (c.one_row.ensures r.order) ∙ h))

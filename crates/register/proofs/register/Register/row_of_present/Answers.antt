@@ -3,5 +3,6 @@ use Rattle.register.proofs.register.Register.row_of_present.Goals as goal
 
 pub returns : goal.returns
 returns g c =
-    tree_row g.P.PlaceKind.model c.args.self.now c.row_laws.ensures c.one_row.ensures
+    let r = c.args.self.now in
+    tree_row g.P.PlaceKind.model r c.row_laws.ensures r.order (c.one_row.ensures r.order)
     (λ j. (c.count-count.ensures.row j).0)
