@@ -29,12 +29,11 @@ module _ {P R : Type 0} {g : Ghosts P R} {m : Model P R} (box : Box m) (h : Hist
       (old new : Register P R g) (q : OpenQueries) (w : List (List ℕ)) (room : ℕ)
       → Agrees box h (parts old q w room) → (Life box h → Life box (outcome box h c ∷ h))
       → OnRegister box h c e n place r
-      → ((j : ℕ) → registers.place_of new j ≡ changed r n place (registers.place_of old) j) → Kept m old new
+      → ((j : ℕ) → registers.place_of new j ≡ changed r n place (registers.place_of old) j) → Kept old new
       → Agrees box (answered c register_refusal (λ _. e) r ∷ h) (parts new q w room)
   goes_on c e n place r old new q w room a extends l after kept = record {
     life = subst (λ x. Life box (x ∷ h)) l.right (extends a.life);
     capacity = kept.capacity ∙ a.capacity;
-    order = kept.order a.order;
     places = λ j. after j ∙ same_changed r n place (registers.place_of old) (place_of h) a.places j ∙ sym (l.places j);
     statuses = λ s. a.statuses s ∙ sym (l.statuses s);
     stand = let x = a.stand in let y = l.stand in omega arith;

@@ -3,7 +3,7 @@ use Rattle.std.specs.Prelude.{◌≡◌, ℕ, List, [], ◌∷◌, None}
 use Rattle.kinds.specs.Rules.{Model}
 use Rattle.kinds.specs.declared.kind.PlaceKind.{Ghosts}
 use Rattle.register.specs.declared.register.Register.{Register}
-use Rattle.register.specs.View.{capacity_of, InOrder}
+use Rattle.register.specs.View.{capacity_of}
 use Rattle.register.specs.View as registers
 use Rattle.open_queries.specs.declared.open_queries.OpenQueries.{OpenQueries}
 use Rattle.open_queries.specs.Calls.{first_serial}
@@ -26,11 +26,10 @@ abbrev pub parts : {P R : Type 0} {g : Ghosts P R} → Register P R g → OpenQu
 parts r q w c = record { register = r; queries = q; waits = w; room = c }
 
 -- The history is a life of the box, and the parts hold what it says: who is present where, what has become of each query, how
--- many stand, the next serial, and what waits. The register's tree is in order.
+-- many stand, the next serial, and what waits.
 pub record Agrees {P R : Type 0} {g : Ghosts P R} {m : Model P R} (box : Box m) (h : History P) (x : Parts P R g) : Type 0 where
   pub life : Life box h
   pub capacity : capacity_of x.register ≡ box.capacity
-  pub order : InOrder m x.register
   pub places : (n : ℕ) → registers.place_of x.register n ≡ place_of h n
   pub statuses : (s : ℕ) → status_of x.queries s ≡ status h s
   pub stand : queries.standing x.queries ≡ standing h
@@ -44,8 +43,7 @@ abbrev pub Lives : {P R : Type 0} {g : Ghosts P R} → Model P R → Parts P R g
 Lives {P} m x e y = (box : Box m) (h : History P) → Agrees box h x → Agrees box (e ∷ h) y × Point box (e ∷ h)
 
 -- The parts as their constructors make them, with this first serial.
-pub record JustMade {P R : Type 0} {g : Ghosts P R} (m : Model P R) (first : ℕ) (x : Parts P R g) : Type 0 where
-  pub order : InOrder m x.register
+pub record JustMade {P R : Type 0} {g : Ghosts P R} (first : ℕ) (x : Parts P R g) : Type 0 where
   pub nobody : (n : ℕ) → registers.place_of x.register n ≡ None
   pub no_query : (s : ℕ) → status_of x.queries s ≡ absent
   pub none_stands : queries.standing x.queries ≡ 0

@@ -2,7 +2,7 @@
 ghost use Rattle.std.specs.Prelude.{◌≡◌, ℕ, ◌+◌, false, is_ok, Ok, Err};
 ghost use Rattle.open_queries.specs.View.{status_of, standing, next_of};
 ghost use Rattle.open_queries.specs.Calls.{at_serial, accepted, added};
-ghost use Rattle.register.specs.View.{capacity_of, place_of, InOrder};
+ghost use Rattle.register.specs.View.{capacity_of, place_of};
 ghost use Rattle.calls.specs.Answers.{query_checks, sent_after, told, Sendable};
 
 use crate::fault::CallFault;
@@ -27,7 +27,7 @@ fn check_query<P: PlaceKind, L: Line>(
     size: u16,
     text: &[u8],
 ) -> Result<Accepted<P::Region>, CallFault>
-    ensures answer { InOrder P.PlaceKind.model register.now → result ≡ query_checks P.PlaceKind.model (capacity_of register.now) (place_of register.now) (standing queries.now) (next_of queries.now) (L.Line.capacity line.now) (L.Line.waiting line.now) set size text.now }
+    ensures answer { result ≡ query_checks P.PlaceKind.model (capacity_of register.now) (place_of register.now) (standing queries.now) (next_of queries.now) (L.Line.capacity line.now) (L.Line.waiting line.now) set size text.now }
     ensures sendable { elim result [ Ok a ↦ Sendable P.PlaceKind.model (standing queries.now) (next_of queries.now) (L.Line.capacity line.now) (L.Line.waiting line.now) text.now a.serial | Err e ↦ Unit {0} ] }
 {
     register.check_asker(set, size)?;
@@ -36,7 +36,7 @@ fn check_query<P: PlaceKind, L: Line>(
     let bucket = register.bucket(set, size)?;
     let serial = queries.next_serial()?;
     if line.spare() == 0 {
-        return Err(CallFault::Line(LineFault::Full));
+        return Err(LineFault::Full.into());
     }
     Ok(Accepted { bucket, serial })
 }

@@ -2,7 +2,7 @@
 ghost use Rattle.std.specs.Prelude.{◌≡◌, ℕ, false, List, is_ok, Some, None};
 ghost use Rattle.open_queries.specs.declared.open_queries.OpenQueries.{OpenQueries};
 ghost use Rattle.register.specs.Answers.{enter_answer, move_answer, leave_answer, changed};
-ghost use Rattle.register.specs.View.{capacity_of, place_of, InOrder, Kept};
+ghost use Rattle.register.specs.View.{capacity_of, place_of, Kept};
 ghost use Rattle.calls.specs.Agreement.{parts, Lives};
 ghost use Rattle.calls.specs.Events.{enter_event, move_event, leave_event};
 
@@ -18,7 +18,7 @@ pub fn enter<P: PlaceKind>(
 ) -> Result<(), RegisterFault>
     ensures answer { result ≡ enter_answer P.PlaceKind.model (capacity_of register.old) (place_of register.old) set place }
     ensures after { (j : ℕ) → place_of register.new j ≡ changed result set (Some place) (place_of register.old) j }
-    ensures kept { Kept P.PlaceKind.model register.old register.new }
+    ensures kept { Kept register.old register.new }
     ensures refused { is_ok result ≡ false → register.new ≡ register.old }
     ensures lives { (q : OpenQueries) (w : List (List ℕ)) (c : ℕ) → Lives P.PlaceKind.model (parts register.old q w c) (enter_event set place result) (parts register.new q w c) }
 {

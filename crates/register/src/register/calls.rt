@@ -1,10 +1,10 @@
 //! The register's calls.
-ghost use Rattle.std.specs.Prelude.{◌≡◌, ℕ, ◌-◌, ◌<◌, ◌≤◌, min, true, false, length, is_ok, Some, None};
+ghost use Rattle.std.specs.Prelude.{◌≡◌, ℕ, ◌-◌, ◌<◌, ◌≤◌, min, true, false, length, is_ok, Some, None, Ok};
 ghost use Rattle.buckets.specs.Ends.{ends_of_rank};
 ghost use Rattle.buckets.specs.Rows.{rank_of};
 ghost use Rattle.std.specs.List.{slice_get};
 ghost use Rattle.tree.specs.View as trees;
-ghost use Rattle.register.specs.Answers.{numbered, asker_answer, enter_answer, leave_answer, move_answer, bucket_in, bucket_answer, changed};
+ghost use Rattle.register.specs.Answers.{numbered, if_true, asker_answer, enter_answer, leave_answer, move_answer, bucket_in, bucket_answer, changed};
 ghost use Rattle.register.specs.View.{capacity_of, place_of, slot_count, slot, height_of, Kept, row_of, TreeRowRight};
 
 use crate::bucket::Bucket;
@@ -49,11 +49,15 @@ impl<'a, P: PlaceKind> Register<'a, P> {
         self.tree.height()
     }
 
-    // Whether a set has this number.
-    fn is_numbered(&self, set: u16) -> bool
-        ensures { result ≡ numbered (capacity_of self.now) set }
+    // Refuses a number that no set has.
+    fn check_number(&self, set: u16) -> Result<(), RegisterFault>
+        ensures { result ≡ if_true (numbered (capacity_of self.now) set) RegisterFault.NoSuchSet (Ok tt) }
     {
-        1 <= set && set <= self.capacity()
+        if 1 <= set && set <= self.capacity() {
+            Ok(())
+        } else {
+            Err(RegisterFault::NoSuchSet)
+        }
     }
 
     /// Enters a set that is not present at a place.
@@ -63,9 +67,7 @@ impl<'a, P: PlaceKind> Register<'a, P> {
         ensures kept { Kept self.old self.new }
         ensures refused { is_ok result ≡ false → self.new ≡ self.old }
     {
-        if !self.is_numbered(set) {
-            return Err(RegisterFault::NoSuchSet);
-        }
+        self.check_number(set)?;
         place.check()?;
         if self.place_of(set).is_some() {
             return Err(RegisterFault::AlreadyPresent);
@@ -81,9 +83,7 @@ impl<'a, P: PlaceKind> Register<'a, P> {
         ensures kept { Kept self.old self.new }
         ensures refused { is_ok result ≡ false → self.new ≡ self.old }
     {
-        if !self.is_numbered(set) {
-            return Err(RegisterFault::NoSuchSet);
-        }
+        self.check_number(set)?;
         let place = self.place_of(set).ok_or(RegisterFault::NotPresent)?;
         self.tree.leave(Entry { set, place });
         Ok(())
@@ -96,9 +96,7 @@ impl<'a, P: PlaceKind> Register<'a, P> {
         ensures kept { Kept self.old self.new }
         ensures refused { is_ok result ≡ false → self.new ≡ self.old }
     {
-        if !self.is_numbered(set) {
-            return Err(RegisterFault::NoSuchSet);
-        }
+        self.check_number(set)?;
         place.check()?;
         let old = self.place_of(set).ok_or(RegisterFault::NotPresent)?;
         self.tree.relocate(Entry { set, place: old }, place);
@@ -109,9 +107,7 @@ impl<'a, P: PlaceKind> Register<'a, P> {
     pub fn check_asker(&self, set: u16, size: u16) -> Result<(), RegisterFault>
         ensures { result ≡ asker_answer (capacity_of self.now) set size }
     {
-        if !self.is_numbered(set) {
-            return Err(RegisterFault::NoSuchSet);
-        }
+        self.check_number(set)?;
         if size < 2 || size > 64 {
             return Err(RegisterFault::Size);
         }
