@@ -33,7 +33,7 @@ module _ {P R : Type 0} {m : Model P R} (box : Box m) where
   -- Two events after g that change the same, send the same, and answer the same but for the set that is named.
   record Twin (g : History P) (d e : Event P) : Type 0 where
     places : (n : ℕ) (o : Option P) → placed_by (place_change d) n o ≡ placed_by (place_change e) n o
-    stages : (s : ℕ) (x : Stage) → staged_by (query_change d) s x ≡ staged_by (query_change e) s x
+    stages : (s : ℕ) (x : Option Stage) → staged_by (query_change d) s x ≡ staged_by (query_change e) s x
     given : (xs : List ℕ) → with_query (asked_in d) xs ≡ with_query (asked_in e) xs
     messages : message_of box g (asked_in d) ≡ message_of box g (asked_in e)
     takes : is_take d ≡ is_take e

@@ -1,5 +1,5 @@
 -- Counting over a list of serials.
-use Rattle.std.proofs.Common.{◌≡◌, ℕ, ◌+◌, ◌≤◌, Bool, true, false, cond, eqb, ◌⊎◌, List, [], ◌∷◌, sym, refl, ap, subst, inl, inr, arith}
+use Rattle.std.proofs.Common.{◌≡◌, ℕ, ◌+◌, ◌≤◌, Bool, true, false, cond, eqb, ◌⊎◌, List, [], ◌∷◌, sym, refl, ap, subst, inl, inr, arith, Option}
 use Rattle.std.proofs.lemmas.Bool.{ne_eqb, eqb-true, eqb-false}
 use Rattle.open_queries.specs.declared.entry.Stage.{Stage}
 use Rattle.buckets.specs.Rows.{In, here, later}
@@ -50,7 +50,7 @@ times_once s (x ∷ xs) d = go (eqb x s) refl (times_once s xs d.1)
         omega arith
     go false e i = i
 
-module _ (p : Stage → Bool) (f : ℕ → Stage) (s : ℕ) (x : Stage) where
+module _ (p : Option Stage → Bool) (f : ℕ → Option Stage) (s : ℕ) (x : Option Stage) where
   -- Setting the stage of a serial that is not in the list changes no count over it.
   pub count_apart : (ts : List ℕ) → (In s ts → ⊥)
       → count (λ t. p (cond (eqb s t) x (f t))) ts ≡ count (λ t. p (f t)) ts

@@ -23,7 +23,7 @@ use Rattle.lines.specs.declared.fault.LineFault.TheVariants as line_fault
 use Rattle.lines.specs.Meaning.{spare_of, newer, oldest, after_take}
 use Rattle.lines.specs.MessageFaults.{message_refusal, text_checked, line_refusal}
 use Rattle.open_queries.specs.declared.entry.Stage.{Stage}
-use Rattle.open_queries.specs.declared.entry.Stage.TheVariants.{Free, Open, InHand}
+use Rattle.open_queries.specs.declared.entry.Stage.TheVariants.{Open, InHand}
 use Rattle.open_queries.specs.declared.handover.Handover.{Handover}
 use Rattle.open_queries.specs.Table.{Status, staged, open_by}
 use Rattle.open_queries.specs.declared.fault.OpenFault.{OpenFault}
@@ -44,28 +44,28 @@ use Rattle.model.proofs.Checks.{accepted_passed, when_passed}
 use Rattle.model.proofs.QueriesKept.{Fits, fits, queries_kept}
 
 -- What a call on the open queries makes of the status of its serial.
-collected_from : (x : Stage) (n : ℕ) → is_open x ≡ true → staged InHand n ≡ queries.collected (staged x n)
-collected_from Free n e = absurd (false≢true e)
-collected_from Open n e = refl
-collected_from InHand n e = absurd (false≢true e)
+collected_from : (x : Option Stage) (n : ℕ) → is_open x ≡ true → staged (Some InHand) n ≡ queries.collected (staged x n)
+collected_from None n e = absurd (false≢true e)
+collected_from (Some Open) n e = refl
+collected_from (Some InHand) n e = absurd (false≢true e)
 
-handed_from : (x : Stage) (n : ℕ) → is_in_hand x ≡ true → staged Free n ≡ queries.handed_over (staged x n)
-handed_from Free n e = absurd (false≢true e)
-handed_from Open n e = absurd (false≢true e)
-handed_from InHand n e = refl
+handed_from : (x : Option Stage) (n : ℕ) → is_in_hand x ≡ true → staged None n ≡ queries.handed_over (staged x n)
+handed_from None n e = absurd (false≢true e)
+handed_from (Some Open) n e = absurd (false≢true e)
+handed_from (Some InHand) n e = refl
 
-back_from : (x : Stage) (n : ℕ) → is_in_hand x ≡ true → staged Open n ≡ queries.put_back (staged x n)
-back_from Free n e = absurd (false≢true e)
-back_from Open n e = absurd (false≢true e)
-back_from InHand n e = refl
+back_from : (x : Option Stage) (n : ℕ) → is_in_hand x ≡ true → staged (Some Open) n ≡ queries.put_back (staged x n)
+back_from None n e = absurd (false≢true e)
+back_from (Some Open) n e = absurd (false≢true e)
+back_from (Some InHand) n e = refl
 
-given_up_from : (x : Stage) (n : ℕ) → is_open x ≡ true → staged Free n ≡ queries.given_up (staged x n)
-given_up_from Free n e = absurd (false≢true e)
-given_up_from Open n e = refl
-given_up_from InHand n e = absurd (false≢true e)
+given_up_from : (x : Option Stage) (n : ℕ) → is_open x ≡ true → staged None n ≡ queries.given_up (staged x n)
+given_up_from None n e = absurd (false≢true e)
+given_up_from (Some Open) n e = refl
+given_up_from (Some InHand) n e = absurd (false≢true e)
 
 -- Its status alone is changed, to one stage.
-at_one : (f : ℕ → Stage) (by : ℕ → ℕ) (n s : ℕ) (x : Stage) (change : Status → Status)
+at_one : (f : ℕ → Option Stage) (by : ℕ → ℕ) (n s : ℕ) (x : Option Stage) (change : Status → Status)
     → staged x (by n) ≡ change (staged (f n) (by n))
     → staged (cond (eqb n s) x (f s)) (by s) ≡ cond (eqb n s) (change (staged (f s) (by s))) (staged (f s) (by s))
 at_one f by n s x change same = go (eqb n s) refl
@@ -74,22 +74,22 @@ at_one f by n s x change same = go (eqb n s) refl
     go true e = subst (λ u. staged x (by u) ≡ change (staged (f u) (by u))) (eqb-true n s e) same
     go false e = refl
 
-status_changed : (next : ℕ) (f : ℕ → Stage) (by : ℕ → ℕ) (s : ℕ) (c : Option Change) → Fits next f c
+status_changed : (next : ℕ) (f : ℕ → Option Stage) (by : ℕ → ℕ) (s : ℕ) (c : Option Change) → Fits next f c
     → staged (staged_by c s (f s)) (asked_by (elim c as (λ _. Option Query) [ None ↦ None | Some d ↦ query_in d ]) s (by s))
     ≡ changed c (λ t. staged (f t) (by t)) s
 status_changed next f by s None fit = refl
 status_changed next f by s (Some (opens q)) fit = go (eqb q.serial s)
   where
-    go : (b : Bool) → staged (cond b Open (f s)) (cond b q.set (by s)) ≡ cond b (open_by q.set) (staged (f s) (by s))
+    go : (b : Bool) → staged (cond b (Some Open) (f s)) (cond b q.set (by s)) ≡ cond b (open_by q.set) (staged (f s) (by s))
     go true = refl
     go false = refl
 status_changed next f by s (Some (collects n)) fit =
-    at_one f by n s InHand queries.collected (collected_from (f n) (by n) fit)
+    at_one f by n s (Some InHand) queries.collected (collected_from (f n) (by n) fit)
 status_changed next f by s (Some (hands_over n)) fit =
-    at_one f by n s Free queries.handed_over (handed_from (f n) (by n) fit)
-status_changed next f by s (Some (puts_back n)) fit = at_one f by n s Open queries.put_back (back_from (f n) (by n) fit)
+    at_one f by n s None queries.handed_over (handed_from (f n) (by n) fit)
+status_changed next f by s (Some (puts_back n)) fit = at_one f by n s (Some Open) queries.put_back (back_from (f n) (by n) fit)
 status_changed next f by s (Some (gives_up n)) fit =
-    at_one f by n s Free queries.given_up (given_up_from (f n) (by n) fit)
+    at_one f by n s None queries.given_up (given_up_from (f n) (by n) fit)
 
 -- How many stand, from the two balances.
 stand_changed : (c : Option Change) (xs : List ℕ) (handed given before after : ℕ)
@@ -268,45 +268,45 @@ module _ {P R : Type 0} {m : Model P R} (box : Box m) where
     taking b true false p q = loud (take_message b) (taken b (oldest (waiting box h) b)) refl (rw (p, q))
     taking b false y p q = quiet (take_message b) (line_refusal line_fault.Size) (status h) (rw p) (λ s. refl)
 
-    collecting : (s : ℕ) (x : Stage) → stage h s ≡ x
+    collecting : (s : ℕ) (x : Option Stage) → stage h s ≡ x
         → OnQueries box h (collect s) (collected s) s queries.collected 0 (collect_answer s (staged x (asker h s)))
-    collecting s Free p =
+    collecting s None p =
         quiet (collect s) (open_refusal open_fault.NotOpen) (at_serial s queries.collected (status h)) (rw p)
         (λ t. unchanged s t queries.collected (rw p))
-    collecting s Open p = loud (collect s) (collected s (unspent s (asker h s))) refl (rw p)
-    collecting s InHand p =
+    collecting s (Some Open) p = loud (collect s) (collected s (unspent s (asker h s))) refl (rw p)
+    collecting s (Some InHand) p =
         quiet (collect s) (open_refusal open_fault.NotOpen) (at_serial s queries.collected (status h)) (rw p)
         (λ t. unchanged s t queries.collected (rw p))
 
-    handing : (g : Handover) (x : Stage) → stage h g.serial ≡ x
+    handing : (g : Handover) (x : Option Stage) → stage h g.serial ≡ x
         → OnQueries box h (hand_over g) (handed_over g) g.serial queries.handed_over
         (queries.accepted (return_answer (staged x (asker h g.serial)))) (return_answer (staged x (asker h g.serial)))
-    handing g Free p =
+    handing g None p =
         quiet (hand_over g) (open_refusal open_fault.NotInHand) (at_serial g.serial queries.handed_over (status h)) (rw p)
         (λ t. unchanged g.serial t queries.handed_over (rw p))
-    handing g Open p =
+    handing g (Some Open) p =
         quiet (hand_over g) (open_refusal open_fault.NotInHand) (at_serial g.serial queries.handed_over (status h)) (rw p)
         (λ t. unchanged g.serial t queries.handed_over (rw p))
-    handing g InHand p = loud (hand_over g) (handed_over g (asker h g.serial)) refl (rw p)
+    handing g (Some InHand) p = loud (hand_over g) (handed_over g (asker h g.serial)) refl (rw p)
 
-    putting : (g : Handover) (x : Stage) → stage h g.serial ≡ x
+    putting : (g : Handover) (x : Option Stage) → stage h g.serial ≡ x
         → OnQueries box h (put_back g) (returned g) g.serial queries.put_back 0 (return_answer (staged x (asker h g.serial)))
-    putting g Free p =
+    putting g None p =
         quiet (put_back g) (open_refusal open_fault.NotInHand) (at_serial g.serial queries.put_back (status h)) (rw p)
         (λ t. unchanged g.serial t queries.put_back (rw p))
-    putting g Open p =
+    putting g (Some Open) p =
         quiet (put_back g) (open_refusal open_fault.NotInHand) (at_serial g.serial queries.put_back (status h)) (rw p)
         (λ t. unchanged g.serial t queries.put_back (rw p))
-    putting g InHand p = loud (put_back g) (returned g (asker h g.serial)) refl (rw p)
+    putting g (Some InHand) p = loud (put_back g) (returned g (asker h g.serial)) refl (rw p)
 
-    giving : (s : ℕ) (x : Stage) → stage h s ≡ x
+    giving : (s : ℕ) (x : Option Stage) → stage h s ≡ x
         → OnQueries box h (give_up s) (λ _. given_up s) s queries.given_up
         (queries.accepted (give_up_answer (staged x (asker h s)))) (give_up_answer (staged x (asker h s)))
-    giving s Free p =
+    giving s None p =
         quiet (give_up s) (open_refusal open_fault.NotOpen) (at_serial s queries.given_up (status h)) (rw p)
         (λ t. unchanged s t queries.given_up (rw p))
-    giving s Open p = loud (give_up s) (given_up s) refl (rw p)
-    giving s InHand p =
+    giving s (Some Open) p = loud (give_up s) (given_up s) refl (rw p)
+    giving s (Some InHand) p =
         quiet (give_up s) (open_refusal open_fault.NotOpen) (at_serial s queries.given_up (status h)) (rw p)
         (λ t. unchanged s t queries.given_up (rw p))
 

@@ -5,7 +5,7 @@ use Rattle.std.proofs.lemmas.Bool.{eq-eqb, eqb-true, eqb-false}
 use Rattle.kinds.specs.Rules.{Model}
 use Rattle.buckets.specs.Rows.{In}
 use Rattle.open_queries.specs.declared.entry.Stage.{Stage}
-use Rattle.open_queries.specs.declared.entry.Stage.TheVariants.{Free, Open, InHand}
+use Rattle.open_queries.specs.declared.entry.Stage.TheVariants.{Open, InHand}
 use Rattle.open_queries.specs.declared.handover.Handover.{Handover}
 use Rattle.open_queries.specs.Calls.{first_serial}
 use Rattle.model.specs.Events.{Query, query_by, unspent, Event, entered, moved, left, asked, taken, collected, handed_over, returned, given_up, refused, History}
@@ -17,18 +17,18 @@ use Rattle.model.proofs.Checks.{accepted_passed, unless_passed}
 use Rattle.model.proofs.Counts.{in_cons, bit, count_cons, times, times_none, times_in, times_once, count_apart, count_set}
 
 -- 1 where a query stands.
-abbrev pub live : Stage → ℕ
+abbrev pub live : Option Stage → ℕ
 live x = bit (is_open x) + bit (is_in_hand x)
 
 -- What holds of the serials given, the stage of each, and how many ended, in all and each.
-record Sound (first : ℕ) (xs : List ℕ) (f : ℕ → Stage) (handed given : ℕ) (ended : ℕ → ℕ) : Type 0 where
+record Sound (first : ℕ) (xs : List ℕ) (f : ℕ → Option Stage) (handed given : ℕ) (ended : ℕ → ℕ) : Type 0 where
   below : (s : ℕ) → In s xs → s < first + length xs
   apart : Distinct xs
   balance : length xs ≡ handed + given + count (λ s. is_open (f s)) xs + count (λ s. is_in_hand (f s)) xs
   once : (s : ℕ) → ended s + live (f s) ≡ times s xs
 
 -- What an accepted call found: the next serial, an open query, or one in hand.
-abbrev pub Fits : ℕ → (ℕ → Stage) → Option Change → Type 0
+abbrev pub Fits : ℕ → (ℕ → Option Stage) → Option Change → Type 0
 Fits next f None = Unit {0}
 Fits next f (Some (opens q)) = q.serial ≡ next
 Fits next f (Some (collects s)) = is_open (f s) ≡ true
@@ -36,28 +36,28 @@ Fits next f (Some (hands_over s)) = is_in_hand (f s) ≡ true
 Fits next f (Some (puts_back s)) = is_in_hand (f s) ≡ true
 Fits next f (Some (gives_up s)) = is_open (f s) ≡ true
 
-open_live : (x : Stage) → is_open x ≡ true → live x ≡ 1
-open_live Free e = absurd (false≢true e)
-open_live Open e = refl
-open_live InHand e = absurd (false≢true e)
+open_live : (x : Option Stage) → is_open x ≡ true → live x ≡ 1
+open_live None e = absurd (false≢true e)
+open_live (Some Open) e = refl
+open_live (Some InHand) e = absurd (false≢true e)
 
-in_hand_live : (x : Stage) → is_in_hand x ≡ true → live x ≡ 1
-in_hand_live Free e = absurd (false≢true e)
-in_hand_live Open e = absurd (false≢true e)
-in_hand_live InHand e = refl
+in_hand_live : (x : Option Stage) → is_in_hand x ≡ true → live x ≡ 1
+in_hand_live None e = absurd (false≢true e)
+in_hand_live (Some Open) e = absurd (false≢true e)
+in_hand_live (Some InHand) e = refl
 
-abbrev Stepped : Option Change → ℕ → List ℕ → (ℕ → Stage) → ℕ → ℕ → (ℕ → ℕ) → Type 0
+abbrev Stepped : Option Change → ℕ → List ℕ → (ℕ → Option Stage) → ℕ → ℕ → (ℕ → ℕ) → Type 0
 Stepped c first xs f handed given ended =
     Sound first (with_query (elim c [ None ↦ None | Some d ↦ query_in d ]) xs) (λ s. staged_by c s (f s))
     (cond (passes is_hand_over c) (1 + handed) handed) (cond (passes is_give_up c) (1 + given) given)
     (λ s. cond (passes (ends s) c) (1 + ended s) (ended s))
 
-module _ {first : ℕ} {xs : List ℕ} {f : ℕ → Stage} {handed given : ℕ} {ended : ℕ → ℕ} (i : Sound first xs f handed given ended) where
+module _ {first : ℕ} {xs : List ℕ} {f : ℕ → Option Stage} {handed given : ℕ} {ended : ℕ → ℕ} (i : Sound first xs f handed given ended) where
   was_given : (s : ℕ) → live (f s) ≡ 1 → In s xs
   was_given s l = times_in s xs (let o = i.once s in omega arith)
 
   -- A query that stands changes its stage and still stands.
-  turned : (s : ℕ) (x : Stage) → live (f s) ≡ 1 → live x ≡ 1
+  turned : (s : ℕ) (x : Option Stage) → live (f s) ≡ 1 → live x ≡ 1
       → Sound first xs (λ t. cond (eqb s t) x (f t)) handed given ended
   turned s x l k =
       let m = was_given s l in
@@ -81,21 +81,21 @@ module _ {first : ℕ} {xs : List ℕ} {f : ℕ → Stage} {handed given : ℕ} 
 
   -- A query that stands ends.
   closed : (s handed' given' : ℕ) → handed' + given' ≡ handed + given + 1 → live (f s) ≡ 1
-      → Sound first xs (λ t. cond (eqb s t) Free (f t)) handed' given' (λ t. cond (eqb s t) (1 + ended t) (ended t))
+      → Sound first xs (λ t. cond (eqb s t) None (f t)) handed' given' (λ t. cond (eqb s t) (1 + ended t) (ended t))
   closed s handed' given' more l =
       let m = was_given s l in
       record {
         below = i.below;
         apart = i.apart;
         balance =
-            let o = count_set is_open f s Free xs i.apart m in
-            let h = count_set is_in_hand f s Free xs i.apart m in
+            let o = count_set is_open f s None xs i.apart m in
+            let h = count_set is_in_hand f s None xs i.apart m in
             let q = i.balance in
             omega arith;
         once = λ t. go t (eqb s t) refl;
       }
     where
-      go : (t : ℕ) (b : Bool) → eqb s t ≡ b → cond b (1 + ended t) (ended t) + live (cond b Free (f t)) ≡ times t xs
+      go : (t : ℕ) (b : Bool) → eqb s t ≡ b → cond b (1 + ended t) (ended t) + live (cond b None (f t)) ≡ times t xs
       go t true e =
           let y : live (f t) ≡ 1 = subst (λ u. live (f u) ≡ 1) (eqb-true s t e) l in
           let o = i.once t in
@@ -103,19 +103,19 @@ module _ {first : ℕ} {xs : List ℕ} {f : ℕ → Stage} {handed given : ℕ} 
       go t false e = i.once t
 
   -- A new query gets a serial that was not given before.
-  added : (s : ℕ) → s ≡ first + length xs → Sound first (s ∷ xs) (λ t. cond (eqb s t) Open (f t)) handed given ended
+  added : (s : ℕ) → s ≡ first + length xs → Sound first (s ∷ xs) (λ t. cond (eqb s t) (Some Open) (f t)) handed given ended
   added s es =
       record {
         below = λ t m. ⊎_elim (λ q. omega arith) (λ j. let b = i.below t j in omega arith) (in_cons m);
         apart = (fresh, i.apart);
         balance =
-            let o = count_apart is_open f s Open xs fresh in
-            let h = count_apart is_in_hand f s Open xs fresh in
-            let a = count_cons (λ t. is_open (cond (eqb s t) Open (f t))) s xs in
-            let c = count_cons (λ t. is_in_hand (cond (eqb s t) Open (f t))) s xs in
+            let o = count_apart is_open f s (Some Open) xs fresh in
+            let h = count_apart is_in_hand f s (Some Open) xs fresh in
+            let a = count_cons (λ t. is_open (cond (eqb s t) (Some Open) (f t))) s xs in
+            let c = count_cons (λ t. is_in_hand (cond (eqb s t) (Some Open) (f t))) s xs in
             let e = eq-eqb s s refl in
-            let a' : bit (is_open (cond (eqb s s) Open (f s))) ≡ 1 = rw e in
-            let c' : bit (is_in_hand (cond (eqb s s) Open (f s))) ≡ 0 = rw e in
+            let a' : bit (is_open (cond (eqb s s) (Some Open) (f s))) ≡ 1 = rw e in
+            let c' : bit (is_in_hand (cond (eqb s s) (Some Open) (f s))) ≡ 0 = rw e in
             let q = i.balance in
             omega (arith, a, c);
         once = λ t. go t (eqb s t) refl;
@@ -124,7 +124,7 @@ module _ {first : ℕ} {xs : List ℕ} {f : ℕ → Stage} {handed given : ℕ} 
       fresh : In s xs → ⊥
       fresh m = let b = i.below s m in omega arith
 
-      go : (t : ℕ) (b : Bool) → eqb s t ≡ b → ended t + live (cond b Open (f t)) ≡ cond b (1 + times t xs) (times t xs)
+      go : (t : ℕ) (b : Bool) → eqb s t ≡ b → ended t + live (cond b (Some Open) (f t)) ≡ cond b (1 + times t xs) (times t xs)
       go t true e =
           let z = times_none t xs (subst (λ u. In u xs → ⊥) (eqb-true s t e) fresh) in
           let o = i.once t in
@@ -134,9 +134,9 @@ module _ {first : ℕ} {xs : List ℕ} {f : ℕ → Stage} {handed given : ℕ} 
   stepped : (c : Option Change) → Fits (first + length xs) f c → Stepped c first xs f handed given ended
   stepped None fit = i
   stepped (Some (opens q)) fit = added q.serial fit
-  stepped (Some (collects s)) fit = turned s InHand (open_live (f s) fit) refl
+  stepped (Some (collects s)) fit = turned s (Some InHand) (open_live (f s) fit) refl
   stepped (Some (hands_over s)) fit = closed s (1 + handed) given (omega arith) (in_hand_live (f s) fit)
-  stepped (Some (puts_back s)) fit = turned s Open (in_hand_live (f s) fit) refl
+  stepped (Some (puts_back s)) fit = turned s (Some Open) (in_hand_live (f s) fit) refl
   stepped (Some (gives_up s)) fit = closed s handed (1 + given) (omega arith) (open_live (f s) fit)
 
 module _ {P R : Type 0} {m : Model P R} (box : Box m) where

@@ -1,7 +1,7 @@
 -- What the accepted calls do to queries.
 use Rattle.std.specs.Prelude.{ℕ, Bool, true, false, Some, None, Option}
 use Rattle.open_queries.specs.declared.entry.Stage.{Stage}
-use Rattle.open_queries.specs.declared.entry.Stage.TheVariants.{Free, Open, InHand}
+use Rattle.open_queries.specs.declared.entry.Stage.TheVariants.{Open, InHand}
 use Rattle.model.specs.Events.{Query}
 
 -- An accepted call on a query: query, collect, hand over, put back or give up, with the serial; a new query whole.
@@ -20,12 +20,12 @@ serial_of (puts_back s) = s
 serial_of (gives_up s) = s
 
 -- A query is open after query and put back, in hand after collect, and ended after hand over and give up.
-abbrev pub stage_of : Change → Stage
-stage_of (opens q) = Open
-stage_of (collects s) = InHand
-stage_of (hands_over s) = Free
-stage_of (puts_back s) = Open
-stage_of (gives_up s) = Free
+abbrev pub stage_of : Change → Option Stage
+stage_of (opens q) = Some Open
+stage_of (collects s) = Some InHand
+stage_of (hands_over s) = None
+stage_of (puts_back s) = Some Open
+stage_of (gives_up s) = None
 
 abbrev pub is_hand_over : Change → Bool
 is_hand_over (opens q) = false
@@ -50,12 +50,12 @@ query_in (puts_back s) = None
 query_in (gives_up s) = None
 
 -- Whether a serial is that of an open query, and of one in hand.
-abbrev pub is_open : Stage → Bool
-is_open Free = false
-is_open Open = true
-is_open InHand = false
+abbrev pub is_open : Option Stage → Bool
+is_open None = false
+is_open (Some Open) = true
+is_open (Some InHand) = false
 
-abbrev pub is_in_hand : Stage → Bool
-is_in_hand Free = false
-is_in_hand Open = false
-is_in_hand InHand = true
+abbrev pub is_in_hand : Option Stage → Bool
+is_in_hand None = false
+is_in_hand (Some Open) = false
+is_in_hand (Some InHand) = true

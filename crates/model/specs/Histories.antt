@@ -6,7 +6,6 @@ use Rattle.buckets.specs.Rows as rows
 use Rattle.buckets.specs.Regions.{bucket_of, region_over}
 use Rattle.lines.specs.Message.{message}
 use Rattle.open_queries.specs.declared.entry.Stage.{Stage}
-use Rattle.open_queries.specs.declared.entry.Stage.TheVariants.{Free}
 use Rattle.open_queries.specs.Table.{Status, staged}
 use Rattle.open_queries.specs.Calls.{first_serial}
 use Rattle.model.specs.Events.{Query, Event, entered, moved, left, asked, taken, collected, handed_over, returned, given_up, refused, History}
@@ -37,7 +36,7 @@ abbrev pub with_message : Option (List ℕ) → List (List ℕ) → List (List �
 with_message None ms = ms
 with_message (Some x) ms = ms ++ (x ∷ [])
 
-abbrev pub staged_by : Option Change → ℕ → Stage → Stage
+abbrev pub staged_by : Option Change → ℕ → Option Stage → Option Stage
 staged_by None s before = before
 staged_by (Some c) s before = cond (serial_of c == s) (stage_of c) before
 
@@ -100,8 +99,8 @@ module _ {P : Type 0} where
   place_of (e ∷ h) n = placed_by (place_change e) n (place_of h n)
 
   -- The stage of a serial: what the last accepted call on it left.
-  abbrev pub stage : History P → ℕ → Stage
-  stage [] s = Free
+  abbrev pub stage : History P → ℕ → Option Stage
+  stage [] s = None
   stage (e ∷ h) s = staged_by (query_change e) s (stage h s)
 
   -- The set that put the query of a serial; 0 where there is none.

@@ -1,265 +1,255 @@
--- A table in which one entry changes: what it then says of each serial, and how many entries are in use.
-use Rattle.std.proofs.Common.{◌≡◌, ℕ, zero, suc, ◌+◌, ◌<◌, ◌≤◌, true, false, cond, eqb, List, [], ◌∷◌, ◌++◌, length, get_or, take, set, Some, None, sym, refl, ap, ◌∙◌, subst, inl, inr, le_of_suc-le-suc, arith}
-use Rattle.std.proofs.lemmas.Bool.{cases_eq}
-use Rattle.std.proofs.lemmas.List.{take_more, get_or-set_same, length-set}
+-- A table in which one slot changes: what it then says of each serial, and how many slots are in use.
+use Rattle.std.proofs.Common.{◌≡◌, ℕ, zero, suc, ◌+◌, ◌<◌, ◌≤◌, Bool, true, false, cond, eqb, List, [], ◌∷◌, length, get_or, set, Some, None, Option, is_some, is_none, sym, refl, ap, ◌∙◌, subst, inl, inr, le_of_suc-le-suc, arith}
+use Rattle.std.specs.List.{count_by, position}
+use Rattle.std.proofs.lemmas.Bool.{cases_eq, cases_Bool}
+use Rattle.std.proofs.lemmas.List.{set-get_or}
+use Rattle.std.proofs.lemmas.List.Quantifiers.{position-Some}
+use Rattle.std.proofs.lemmas.List.Sums.{sum_by-cons, sum_by-set, get_or-le-sum_by}
 use Rattle.open_queries.specs.declared.entry.Stage.{Stage}
-use Rattle.open_queries.specs.declared.entry.Stage.TheVariants.{Free, Open, InHand}
+use Rattle.open_queries.specs.declared.entry.Stage.TheVariants.{Open, InHand}
 use Rattle.open_queries.specs.declared.entry.Entry.{Entry}
-use Rattle.open_queries.specs.Table.{Status, absent, open_by, staged, used, entry_status, has, or_else, table_status, holders, in_use, free_entry}
+use Rattle.open_queries.specs.Table.{Status, absent, open_by, in_hand_by, staged, slot_status, has, or_else, table_status, holders, in_use}
 use Rattle.open_queries.specs.Marks.{in_stage, marked, mark_answer, weight}
 
--- one entry changes: the counts follow
-pub holders_set : (es : List Entry) (i : ℕ) (e : Entry) (s : ℕ) → i < length es → holders (set es i e) s + has (get_or es i free_entry) s ≡ holders es s + has e s
-holders_set [] i e s h = absurd (omega arith)
-holders_set (x ∷ es) zero e s h = omega arith
-holders_set (x ∷ es) (suc i) e s h = let ih = holders_set es i e s (le_of_suc-le-suc h) in omega arith
+abbrev bit : Bool → ℕ
+bit b = cond b 1 0
 
-pub in_use_set : (es : List Entry) (i : ℕ) (e : Entry) → i < length es → in_use (set es i e) + used (get_or es i free_entry).stage ≡ in_use es + used e.stage
-in_use_set [] i e h = absurd (omega arith)
-in_use_set (x ∷ es) zero e h = omega arith
-in_use_set (x ∷ es) (suc i) e h = let ih = in_use_set es i e (le_of_suc-le-suc h) in omega arith
+-- how often a slot has a serial, and whether it is in use or free, as counts add it up
+abbrev times : ℕ → Option Entry → ℕ
+times s o = bit (has s o)
 
-pub holders_append : (xs ys : List Entry) (s : ℕ) → holders (xs ++ ys) s ≡ holders xs s + holders ys s
-holders_append [] ys s = omega arith
-holders_append (x ∷ xs) ys s = let ih = holders_append xs ys s in omega arith
+abbrev used : Option Entry → ℕ
+used o = bit (is_some o)
 
-pub in_use_append : (xs ys : List Entry) → in_use (xs ++ ys) ≡ in_use xs + in_use ys
-in_use_append [] ys = omega arith
-in_use_append (x ∷ xs) ys = let ih = in_use_append xs ys in omega arith
+abbrev free : Option Entry → ℕ
+free o = bit (is_none o)
 
-pub holders_more : (es : List Entry) (i s : ℕ) → i < length es → holders (take (i + 1) es) s ≡ holders (take i es) s + has (get_or es i free_entry) s
-holders_more es i s h = let ih = holders_append (take i es) (get_or es i free_entry ∷ []) s in rw (take_more es i free_entry) (omega arith)
+-- a slot that has not the serial says nothing of it
+slot_status_none : (o : Option Entry) (s : ℕ) → times s o ≡ 0 → slot_status o s ≡ absent
+slot_status_none None s h = refl
+slot_status_none (Some e) s h = grind arith
 
-pub in_use_more : (es : List Entry) (i : ℕ) → i < length es → in_use (take (i + 1) es) ≡ in_use (take i es) + used (get_or es i free_entry).stage
-in_use_more es i h = let ih = in_use_append (take i es) (get_or es i free_entry ∷ []) in rw (take_more es i free_entry) (omega arith)
+or_else_absent : (x : Status) → or_else x absent ≡ x
+or_else_absent absent = refl
+or_else_absent (open_by n) = refl
+or_else_absent (in_hand_by n) = refl
 
-pub in_use_bound : (es : List Entry) → in_use es ≤ length es
-in_use_bound [] = omega arith
-in_use_bound (x ∷ es) = let ih = in_use_bound es in let b : used x.stage ≤ 1 = grind arith in omega arith
-
--- an entry that has not the serial says nothing of it
-entry_none : (e : Entry) (s : ℕ) → has e s ≡ 0 → entry_status e s ≡ absent
-entry_none e s h = grind arith
-
-pub table_status_none : (es : List Entry) (s : ℕ) → holders es s ≡ 0 → table_status es s ≡ absent
+table_status_none : (os : List (Option Entry)) (s : ℕ) → holders os s ≡ 0 → table_status os s ≡ absent
 table_status_none [] s h = refl
-table_status_none (e ∷ es) s h =
-    let a : entry_status e s ≡ absent = entry_none e s (omega arith) in
-    let b : table_status es s ≡ absent = table_status_none es s (omega arith) in
-    rw (a, b)
+table_status_none (o ∷ os) s h =
+    let c = sum_by-cons (times s) o os in
+    rw (slot_status_none o s (omega arith), table_status_none os s (omega arith)) refl
 
-first_is : (e : Entry) (s : ℕ) (y : Status) → has e s ≡ 1 → or_else (entry_status e s) y ≡ entry_status e s
-first_is e s y h = grind arith
+-- where only one slot may have the serial, the table says what that slot says
+table_status_set : (os : List (Option Entry)) (i : ℕ) (o : Option Entry) (s : ℕ) → i < length os → holders os s ≡ times s (get_or os i None) → table_status (set os i o) s ≡ slot_status o s
+table_status_set [] i o s l h = absurd (omega arith)
+table_status_set (x ∷ os) zero o s l h =
+    let c = sum_by-cons (times s) x os in
+    rw (table_status_none os s (omega arith)) (or_else_absent (slot_status o s))
+table_status_set (x ∷ os) (suc i) o s l h =
+    let c = sum_by-cons (times s) x os in
+    let b = get_or-le-sum_by (times s) os i None (le_of_suc-le-suc l) in
+    rw (slot_status_none x s (omega arith)) (table_status_set os i o s (le_of_suc-le-suc l) (omega arith))
 
-holders_at : (es : List Entry) (i s : ℕ) → i < length es → has (get_or es i free_entry) s ≡ 1 → 1 ≤ holders es s
-holders_at [] i s l h = absurd (omega arith)
-holders_at (e ∷ es) zero s l h = omega arith
-holders_at (e ∷ es) (suc i) s l h = let ih = holders_at es i s (le_of_suc-le-suc l) h in omega arith
+table_status_at : (os : List (Option Entry)) (i s : ℕ) → i < length os → holders os s ≡ times s (get_or os i None) → table_status os s ≡ slot_status (get_or os i None) s
+table_status_at os i s l h = ap (λ x. table_status x s) (sym (set-get_or os i None)) ∙ table_status_set os i (get_or os i None) s l h
 
-pub table_status_found : (es : List Entry) (i s : ℕ) → i < length es → has (get_or es i free_entry) s ≡ 1 → holders es s ≤ 1 → table_status es s ≡ entry_status (get_or es i free_entry) s
-table_status_found [] i s l h u = absurd (omega arith)
-table_status_found (e ∷ es) zero s l h u = first_is e s (table_status es s) h
-table_status_found (e ∷ es) (suc i) s l h u =
-    let b : 1 ≤ holders es s = holders_at es i s (le_of_suc-le-suc l) h in
-    let z : has e s ≡ 0 = omega arith in
-    let v : holders es s ≤ 1 = omega arith in
-    rw (entry_none e s z) (table_status_found es i s (le_of_suc-le-suc l) h v)
+table_status_other : (os : List (Option Entry)) (i : ℕ) (o : Option Entry) (s : ℕ) → i < length os → times s (get_or os i None) ≡ 0 → times s o ≡ 0 → table_status (set os i o) s ≡ table_status os s
+table_status_other [] i o s l h k = refl
+table_status_other (x ∷ os) zero o s l h k = rw (slot_status_none x s h, slot_status_none o s k) refl
+table_status_other (x ∷ os) (suc i) o s l h k = ap (or_else (slot_status x s)) (table_status_other os i o s (le_of_suc-le-suc l) h k)
 
-pub table_status_other : (es : List Entry) (i : ℕ) (e : Entry) (s : ℕ) → i < length es → has (get_or es i free_entry) s ≡ 0 → has e s ≡ 0 → table_status (set es i e) s ≡ table_status es s
-table_status_other [] i e s l h k = refl
-table_status_other (x ∷ es) zero e s l h k = rw (entry_none x s h, entry_none e s k)
-table_status_other (x ∷ es) (suc i) e s l h k = ap (or_else (entry_status x s)) (table_status_other es i e s (le_of_suc-le-suc l) h k)
+-- where no slot passes, the count is 0
+count_by_none : {X : Type 0} (p : X → Bool) (xs : List X) → position p xs ≡ None → count_by p xs ≡ 0
+count_by_none p [] h = refl
+count_by_none p (x ∷ xs) h =
+    let c = sum_by-cons (λ y. cond (p y) 1 0) x xs in
+    elim (cases_Bool (p x)) [
+      | inl t ↦ grind arith
+      | inr f ↦ (let z : position p xs ≡ None = grind arith in let ih = count_by_none p xs z in grind arith)
+    ]
 
--- an entry in use takes another stage
-abbrev pub turned : Entry → Stage → Entry
-turned e st = record { serial = e.serial; set = e.set; stage = st }
-
-has_turned : (e : Entry) (st : Stage) (s : ℕ) → used e.stage ≡ 1 → has (turned e st) s ≤ has e s
-has_turned e st s u = grind arith
-
-has_used_stage : (e : Entry) (s : ℕ) → has e s ≡ 1 → used e.stage ≡ 1
-has_used_stage e s h = grind arith
-
-pub holders_turned : (es : List Entry) (i n : ℕ) (st : Stage) (s : ℕ) → i < length es → has (get_or es i free_entry) n ≡ 1 → holders (set es i (turned (get_or es i free_entry) st)) s ≤ holders es s
-holders_turned es i n st s l h =
-    let a = holders_set es i (turned (get_or es i free_entry) st) s l in
-    let b = has_turned (get_or es i free_entry) st s (has_used_stage (get_or es i free_entry) n h) in
+-- each slot is in use or free
+in_use_free : (os : List (Option Entry)) → in_use os + count_by is_none os ≡ length os
+in_use_free [] = refl
+in_use_free (o ∷ os) =
+    let a = sum_by-cons used o os in
+    let b = sum_by-cons free o os in
+    let ih = in_use_free os in
+    let one : used o + free o ≡ 1 = grind arith in
     omega arith
 
--- where nothing is in the first stage, nothing changes
-pub same_unless : (es : List Entry) (from to : Stage) (n : ℕ) → in_stage from (table_status es n) ≡ false → (s : ℕ) → table_status es s ≡ cond (eqb n s) (marked from to (table_status es s)) (table_status es s)
-same_unless es from to n h s =
+-- a query takes another stage or ends
+abbrev pub turned : Entry → Option Stage → Option Entry
+turned e None = None
+turned e (Some x) = Some (record { serial = e.serial; set = e.set; stage = x })
+
+-- the slot of a query in a stage
+pub record Found (os : List (Option Entry)) (i n : ℕ) (from : Stage) (e : Entry) : Type 0 where
+  pub within : i < length os
+  pub at : get_or os i None ≡ Some e
+  pub serial : e.serial ≡ n
+  pub stage : e.stage ≡ from
+  pub once : holders os n ≡ 1
+
+status_found : (os : List (Option Entry)) (i n : ℕ) (from : Stage) (e : Entry) → Found os i n from e → table_status os n ≡ staged (Some from) e.set
+status_found os i n from e f =
+    let a : holders os n ≡ times n (get_or os i None) = rw f.at (grind (arith, f.once, f.serial)) in
+    table_status_at os i n f.within a ∙ rw f.at (grind (arith, f.serial, f.stage))
+
+status_turned : (os : List (Option Entry)) (i n : ℕ) (from : Stage) (e : Entry) (to : Option Stage) → Found os i n from e → table_status (set os i (turned e to)) n ≡ staged to e.set
+status_turned os i n from e None f =
+    let a : holders os n ≡ times n (get_or os i None) = rw f.at (grind (arith, f.once, f.serial)) in
+    table_status_set os i None n f.within a
+status_turned os i n from e (Some x) f =
+    let a : holders os n ≡ times n (get_or os i None) = rw f.at (grind (arith, f.once, f.serial)) in
+    table_status_set os i (turned e (Some x)) n f.within a ∙ grind (arith, f.serial)
+
+marked_stage : (from : Stage) (to : Option Stage) (m : ℕ) → marked from to (staged (Some from) m) ≡ staged to m
+marked_stage Open to m = refl
+marked_stage InHand to m = refl
+
+answer_stage : (from : Stage) (m : ℕ) → mark_answer from (staged (Some from) m) ≡ Some m
+answer_stage Open m = refl
+answer_stage InHand m = refl
+
+weight_stage : (e : Entry) (to : Option Stage) → weight (staged to e.set) ≡ used (turned e to)
+weight_stage e None = refl
+weight_stage e (Some Open) = refl
+weight_stage e (Some InHand) = refl
+
+times_turned : (e : Entry) (to : Option Stage) (s : ℕ) → times s (turned e to) ≤ times s (Some e)
+times_turned e None s = omega arith
+times_turned e (Some x) s = omega arith
+
+-- what follows where the slot of that query is turned
+pub record Turns (os after : List (Option Entry)) (n : ℕ) (from : Stage) (to : Option Stage) (set : ℕ) : Type 0 where
+  pub answers : Some set ≡ mark_answer from (table_status os n)
+  pub statuses : (s : ℕ) → table_status after s ≡ cond (eqb n s) (marked from to (table_status os s)) (table_status os s)
+  pub stand : in_use after + weight (table_status os n) ≡ in_use os + weight (table_status after n)
+  pub fewer : (s : ℕ) → holders after s ≤ holders os s
+
+pub turns : (os : List (Option Entry)) (i n : ℕ) (from : Stage) (e : Entry) (to : Option Stage) → Found os i n from e → (o : Option Entry) → o ≡ turned e to → Turns os (set os i o) n from to e.set
+turns os i n from e to f o t = rw t (record {
+  answers = rw was (sym (answer_stage from e.set));
+  statuses = λ s. elim (cases_eq n s) [
+    | inl q ↦ (let t : eqb n s ≡ true = grind arith in rw (t, ← q, was, is) (sym (marked_stage from to e.set)))
+    | inr ne ↦
+        (let t : eqb n s ≡ false = grind arith in
+        let z : times s (Some e) ≡ 0 = grind (arith, f.serial) in
+        let y = times_turned e to s in
+        let x : times s (get_or os i None) ≡ 0 = rw f.at z in
+        rw t (table_status_other os i (turned e to) s f.within x (omega arith)))
+  ];
+  stand = (
+      let a = ap weight was ∙ weight_stage e (Some from) in
+      let b = ap weight is ∙ weight_stage e to in
+      let c = sum_by-set used os i (turned e to) None f.within in
+      let d = ap used f.at in
+      omega arith);
+  fewer = λ s. (
+      let c = sum_by-set (times s) os i (turned e to) None f.within in
+      let d = ap (times s) f.at in
+      let y = times_turned e to s in
+      omega arith);
+})
+  where
+    was : table_status os n ≡ staged (Some from) e.set
+    was = status_found os i n from e f
+
+    is : table_status (set os i (turned e to)) n ≡ staged to e.set
+    is = status_turned os i n from e to f
+
+-- where the query of a serial is not in the stage asked for, nothing changes
+pub none_unless : (os : List (Option Entry)) (n : ℕ) (from : Stage) → in_stage from (table_status os n) ≡ false → None ≡ mark_answer from (table_status os n)
+none_unless os n from h = rw h refl
+
+pub same_unless : (os : List (Option Entry)) (n : ℕ) (from : Stage) (to : Option Stage) → in_stage from (table_status os n) ≡ false → (s : ℕ) → table_status os s ≡ cond (eqb n s) (marked from to (table_status os s)) (table_status os s)
+same_unless os n from to h s =
     elim (cases_eq n s) [
-      | inl e ↦ (let k : in_stage from (table_status es s) ≡ false = subst (λ (x : ℕ). in_stage from (table_status es x) ≡ false) e h in rw k (grind arith))
+      | inl e ↦ (let k : in_stage from (table_status os s) ≡ false = subst (λ (x : ℕ). in_stage from (table_status os x) ≡ false) e h in rw k (grind arith))
       | inr ne ↦ (let f : eqb n s ≡ false = grind arith in rw f refl)
     ]
 
-pub none_unless : (es : List Entry) (from : Stage) (n : ℕ) → in_stage from (table_status es n) ≡ false → None ≡ mark_answer from (table_status es n)
-none_unless es from n h = rw h refl
+pub no_stage_absent : (os : List (Option Entry)) (n : ℕ) (from : Stage) → position (has n) os ≡ None → in_stage from (table_status os n) ≡ false
+no_stage_absent os n Open h = rw (table_status_none os n (count_by_none (has n) os h)) refl
+no_stage_absent os n InHand h = rw (table_status_none os n (count_by_none (has n) os h)) refl
 
-pub absent_in_none : (from : Stage) (x : Status) → x ≡ absent → in_stage from x ≡ false
-absent_in_none Free x e = refl
-absent_in_none Open x e = rw e refl
-absent_in_none InHand x e = rw e refl
+other_stage : (from st : Stage) (m : ℕ) → (st ≡ from → ⊥) → in_stage from (staged (Some st) m) ≡ false
+other_stage Open Open m ne = absurd (ne refl)
+other_stage Open InHand m ne = refl
+other_stage InHand Open m ne = refl
+other_stage InHand InHand m ne = absurd (ne refl)
 
-entry_has : (e : Entry) (n : ℕ) → has e n ≡ 1 → entry_status e n ≡ staged e.stage e.set
-entry_has e n h = grind arith
+no_stage_other : (os : List (Option Entry)) (i n : ℕ) (st from : Stage) (e : Entry) → Found os i n st e → (st ≡ from → ⊥) → in_stage from (table_status os n) ≡ false
+no_stage_other os i n st from e f ne = rw (status_found os i n st e f) (other_stage from st e.set ne)
 
-has_serial : (e : Entry) (n : ℕ) → has e n ≡ 1 → e.serial ≡ n
-has_serial e n h = grind arith
+-- what a search by serial found
+pub found_in : {os : List (Option Entry)} {i n : ℕ} {from : Stage} {e : Entry} → position (has n) os ≡ Some i → get_or os i None ≡ Some e → e.stage ≡ from → holders os n ≤ 1 → Found os i n from e
+found_in {os} {i} {n} {from} {e} p a s u =
+    let q = position-Some (has n) os i None p in
+    let h : has n (Some e) ≡ true = ap (has n) (sym a) ∙ q.1 in
+    let b = get_or-le-sum_by (times n) os i None q.0 in
+    let d = ap (times n) a in
+    record { within = q.0; at = a; serial = grind arith; stage = s; once = grind arith }
 
-pub in_stage_staged : (from st : Stage) (m : ℕ) → (st ≡ from → ⊥) → in_stage from (staged st m) ≡ false
-in_stage_staged Free st m ne = refl
-in_stage_staged Open Free m ne = refl
-in_stage_staged Open Open m ne = absurd (ne refl)
-in_stage_staged Open InHand m ne = refl
-in_stage_staged InHand Free m ne = refl
-in_stage_staged InHand Open m ne = refl
-in_stage_staged InHand InHand m ne = absurd (ne refl)
+pub no_stage_at : (os : List (Option Entry)) (i n : ℕ) (from : Stage) → position (has n) os ≡ Some i → holders os n ≤ 1 → ((e : Entry) → get_or os i None ≡ Some e → e.stage ≡ from → ⊥) → in_stage from (table_status os n) ≡ false
+no_stage_at os i n from p u ne = go (get_or os i None) refl
+  where
+    go : (o : Option Entry) → get_or os i None ≡ o → in_stage from (table_status os n) ≡ false
+    go None a = absurd (let q = position-Some (has n) os i None p in let h : has n None ≡ true = ap (has n) (sym a) ∙ q.1 in grind arith)
+    go (Some e) a = no_stage_other os i n e.stage from e (found_in p a refl u) (ne e a)
 
-pub other_in_none : (es : List Entry) (i n : ℕ) (from : Stage) → i < length es → has (get_or es i free_entry) n ≡ 1 → holders es n ≤ 1 → ((get_or es i free_entry).stage ≡ from → ⊥) → in_stage from (table_status es n) ≡ false
-other_in_none es i n from l h u ne =
-    rw (table_status_found es i n l h u ∙ entry_has (get_or es i free_entry) n h) (in_stage_staged from (get_or es i free_entry).stage (get_or es i free_entry).set ne)
+-- whether a slot is free
+pub full : (os : List (Option Entry)) → position is_none os ≡ None → in_use os ≡ length os
+full os h =
+    let a = count_by_none is_none os h in
+    let b = in_use_free os in
+    omega arith
 
--- the entry of the serial, in the stage asked for
-pub table_status_stage : (es : List Entry) (i n : ℕ) (from : Stage) → i < length es → has (get_or es i free_entry) n ≡ 1 → holders es n ≤ 1 → (get_or es i free_entry).stage ≡ from → table_status es n ≡ staged from (get_or es i free_entry).set
-table_status_stage es i n from l h u e = table_status_found es i n l h u ∙ (entry_has (get_or es i free_entry) n h ∙ ap (λ (x : Stage). staged x (get_or es i free_entry).set) e)
+pub room : (os : List (Option Entry)) (i : ℕ) → position is_none os ≡ Some i → in_use os < length os
+room os i h =
+    let q = position-Some is_none os i None h in
+    let a = get_or-le-sum_by free os i None q.0 in
+    let d : free (get_or os i None) ≡ 1 = ap bit q.1 in
+    let b = in_use_free os in
+    omega arith
 
-has_free : (e : Entry) (n : ℕ) → has (turned e Free) n ≡ 0
-has_free e n = grind arith
+-- what follows where a free slot takes a new query
+is_free : (o : Option Entry) → is_none o ≡ true → o ≡ None
+is_free None h = refl
+is_free (Some e) h = absurd (grind arith)
 
-has_used : (e : Entry) (n : ℕ) (st : Stage) → has e n ≡ 1 → used st ≡ 1 → has (turned e st) n ≡ 1
-has_used e n st h u = grind arith
+vacant : (os : List (Option Entry)) (i : ℕ) → position is_none os ≡ Some i → get_or os i None ≡ None
+vacant os i h = is_free (get_or os i None) (position-Some is_none os i None h).1
 
-table_status_used : (es : List Entry) (i n : ℕ) (st : Stage) → i < length es → has (get_or es i free_entry) n ≡ 1 → holders es n ≤ 1 → used st ≡ 1 → table_status (set es i (turned (get_or es i free_entry) st)) n ≡ staged st (get_or es i free_entry).set
-table_status_used es i n st l h u k =
-    let e = turned (get_or es i free_entry) st in
-    let g : get_or (set es i e) i free_entry ≡ e = get_or-set_same es i e free_entry l in
-    let l2 : i < length (set es i e) = rw length-set l in
-    let h2 : has (get_or (set es i e) i free_entry) n ≡ 1 = ap (λ (x : Entry). has x n) g ∙ has_used (get_or es i free_entry) n st h k in
-    let u1 = holders_turned es i n st n l h in
-    let u2 : holders (set es i e) n ≤ 1 = omega arith in
-    table_status_found (set es i e) i n l2 h2 u2 ∙ (ap (λ (x : Entry). entry_status x n) g ∙ entry_has e n (has_used (get_or es i free_entry) n st h k))
+holders_put : (os : List (Option Entry)) (i : ℕ) (e : Entry) (s : ℕ) → position is_none os ≡ Some i → holders (set os i (Some e)) s ≡ holders os s + cond (eqb e.serial s) 1 0
+holders_put os i e s h =
+    let c = sum_by-set (times s) os i (Some e) None (position-Some is_none os i None h).0 in
+    let d = ap (times s) (vacant os i h) in
+    omega arith
 
-pub table_status_turned : (es : List Entry) (i n : ℕ) (st : Stage) → i < length es → has (get_or es i free_entry) n ≡ 1 → holders es n ≤ 1 → table_status (set es i (turned (get_or es i free_entry) st)) n ≡ staged st (get_or es i free_entry).set
-table_status_turned es i n Free l h u =
-    let a = holders_set es i (turned (get_or es i free_entry) Free) n l in
-    let b = has_free (get_or es i free_entry) n in
-    let z : holders (set es i (turned (get_or es i free_entry) Free)) n ≡ 0 = omega arith in
-    table_status_none (set es i (turned (get_or es i free_entry) Free)) n z
-table_status_turned es i n Open l h u = table_status_used es i n Open l h u refl
-table_status_turned es i n InHand l h u = table_status_used es i n InHand l h u refl
+pub in_use_put : (os : List (Option Entry)) (i : ℕ) (e : Entry) → position is_none os ≡ Some i → in_use (set os i (Some e)) ≡ in_use os + 1
+in_use_put os i e h =
+    let c = sum_by-set used os i (Some e) None (position-Some is_none os i None h).0 in
+    let d = ap used (vacant os i h) in
+    omega arith
 
-has_apart : (e : Entry) (n s : ℕ) → has e n ≡ 1 → (n ≡ s → ⊥) → has e s ≡ 0
-has_apart e n s h ne = grind arith
-
-has_apart_turned : (e : Entry) (n s : ℕ) (st : Stage) → has e n ≡ 1 → (n ≡ s → ⊥) → has (turned e st) s ≡ 0
-has_apart_turned e n s st h ne = grind arith
-
-marked_stage : (from to : Stage) (m : ℕ) → used from ≡ 1 → marked from to (staged from m) ≡ staged to m
-marked_stage Free to m h = absurd (omega arith)
-marked_stage Open to m h = refl
-marked_stage InHand to m h = refl
-
-answer_stage : (from : Stage) (m : ℕ) → used from ≡ 1 → Some m ≡ mark_answer from (staged from m)
-answer_stage Free m h = absurd (omega arith)
-answer_stage Open m h = refl
-answer_stage InHand m h = refl
-
-weight_stage : (st : Stage) (m : ℕ) → weight (staged st m) ≡ used st
-weight_stage Free m = refl
-weight_stage Open m = refl
-weight_stage InHand m = refl
-
-used_from : (es : List Entry) (i n : ℕ) (from : Stage) → has (get_or es i free_entry) n ≡ 1 → (get_or es i free_entry).stage ≡ from → used from ≡ 1
-used_from es i n from h e = sym (ap used e) ∙ has_used_stage (get_or es i free_entry) n h
-
-pub answer_marked : (es : List Entry) (i n : ℕ) (from : Stage) → i < length es → has (get_or es i free_entry) n ≡ 1 → holders es n ≤ 1 → (get_or es i free_entry).stage ≡ from → Some (get_or es i free_entry).set ≡ mark_answer from (table_status es n)
-answer_marked es i n from l h u e = rw (table_status_stage es i n from l h u e) (answer_stage from (get_or es i free_entry).set (used_from es i n from h e))
-
-pub after_marked : (es : List Entry) (i n : ℕ) (from to : Stage) → i < length es → has (get_or es i free_entry) n ≡ 1 → holders es n ≤ 1 → (get_or es i free_entry).stage ≡ from → (s : ℕ) → table_status (set es i (turned (get_or es i free_entry) to)) s ≡ cond (eqb n s) (marked from to (table_status es s)) (table_status es s)
-after_marked es i n from to l h u e s =
-    elim (cases_eq n s) [
+pub table_status_put : (os : List (Option Entry)) (i : ℕ) (e : Entry) (s : ℕ) → position is_none os ≡ Some i → holders os e.serial ≡ 0 → table_status (set os i (Some e)) s ≡ cond (eqb e.serial s) (staged (Some e.stage) e.set) (table_status os s)
+table_status_put os i e s h z =
+    let l = (position-Some is_none os i None h).0 in
+    elim (cases_eq e.serial s) [
       | inl q ↦
-          (let t : eqb n s ≡ true = grind arith in
-          let a = table_status_turned es i n to l h u in
-          let b = table_status_stage es i n from l h u e in
-          let c = marked_stage from to (get_or es i free_entry).set (used_from es i n from h e) in
-          rw (t, ← q, a, b, c) refl)
+          (let t : eqb e.serial s ≡ true = grind arith in
+          let b : holders os e.serial ≡ times e.serial (get_or os i None) = rw (vacant os i h) z in
+          rw (t, ← q) (table_status_set os i (Some e) e.serial l b ∙ grind arith))
       | inr ne ↦
-          (let f : eqb n s ≡ false = grind arith in
-          rw f (table_status_other es i (turned (get_or es i free_entry) to) s l (has_apart (get_or es i free_entry) n s h ne) (has_apart_turned (get_or es i free_entry) n s to h ne)))
+          (let t : eqb e.serial s ≡ false = grind arith in
+          rw t (table_status_other os i (Some e) s l (ap (times s) (vacant os i h)) (grind arith)))
     ]
 
-pub count_marked : (es : List Entry) (i n : ℕ) (from to : Stage) → i < length es → has (get_or es i free_entry) n ≡ 1 → holders es n ≤ 1 → (get_or es i free_entry).stage ≡ from → in_use (set es i (turned (get_or es i free_entry) to)) + weight (table_status es n) ≡ in_use es + weight (table_status (set es i (turned (get_or es i free_entry) to)) n)
-count_marked es i n from to l h u e =
-    let a = table_status_turned es i n to l h u in
-    let b = table_status_stage es i n from l h u e in
-    let c = in_use_set es i (turned (get_or es i free_entry) to) l in
-    let p = ap weight a ∙ weight_stage to (get_or es i free_entry).set in
-    let q = ap weight b ∙ weight_stage from (get_or es i free_entry).set in
-    let r = ap used e in
-    omega arith
+pub once_put : (os : List (Option Entry)) (i : ℕ) (e : Entry) (s : ℕ) → position is_none os ≡ Some i → holders os e.serial ≡ 0 → holders os s ≤ 1 → holders (set os i (Some e)) s ≤ 1
+once_put os i e s h z u = let p = holders_put os i e s h in grind arith
 
--- a free entry takes a new query
-abbrev pub fresh : ℕ → ℕ → Entry
-fresh n a = record { serial = n; set = a; stage = Open }
-
-pub in_use_room : (es : List Entry) (i : ℕ) → i < length es → used (get_or es i free_entry).stage ≡ 0 → in_use es < length es
-in_use_room es i l f =
-    let a = in_use_set es i (fresh 0 0) l in
-    let b = in_use_bound (set es i (fresh 0 0)) in
-    let c : length (set es i (fresh 0 0)) ≡ length es = length-set es i (fresh 0 0) in
-    omega arith
-
-has_vacant : (e : Entry) (s : ℕ) → used e.stage ≡ 0 → has e s ≡ 0
-has_vacant e s f = grind arith
-
-has_fresh : (n a : ℕ) → has (fresh n a) n ≡ 1
-has_fresh n a = grind arith
-
-has_fresh_other : (n a s : ℕ) → (n ≡ s → ⊥) → has (fresh n a) s ≡ 0
-has_fresh_other n a s ne = grind arith
-
-pub once_fresh : (es : List Entry) (i n a s : ℕ) → i < length es → used (get_or es i free_entry).stage ≡ 0 → holders es n ≡ 0 → holders es s ≤ 1 → holders (set es i (fresh n a)) s ≤ 1
-once_fresh es i n a s l f z u =
-    let b = holders_set es i (fresh n a) s l in
-    let h = has_vacant (get_or es i free_entry) s f in
-    elim (cases_eq n s) [
-      | inl q ↦ (let z2 : holders es s ≡ 0 = subst (λ (x : ℕ). holders es x ≡ 0) q z in let k : has (fresh n a) s ≤ 1 = grind arith in omega arith)
-      | inr ne ↦ (let k = has_fresh_other n a s ne in omega arith)
-    ]
-
-pub past_fresh : (es : List Entry) (i n a s : ℕ) → i < length es → used (get_or es i free_entry).stage ≡ 0 → n + 1 ≤ s → holders es s ≡ 0 → holders (set es i (fresh n a)) s ≡ 0
-past_fresh es i n a s l f le z =
-    let b = holders_set es i (fresh n a) s l in
-    let h = has_vacant (get_or es i free_entry) s f in
-    let ne : n ≡ s → ⊥ = (λ q. omega arith) in
-    let k = has_fresh_other n a s ne in
-    omega arith
-
-table_status_fresh : (es : List Entry) (i n a : ℕ) → i < length es → used (get_or es i free_entry).stage ≡ 0 → holders es n ≡ 0 → table_status (set es i (fresh n a)) n ≡ open_by a
-table_status_fresh es i n a l f z =
-    let e = fresh n a in
-    let g : get_or (set es i e) i free_entry ≡ e = get_or-set_same es i e free_entry l in
-    let l2 : i < length (set es i e) = rw length-set l in
-    let h2 : has (get_or (set es i e) i free_entry) n ≡ 1 = ap (λ (x : Entry). has x n) g ∙ has_fresh n a in
-    let v : holders es n ≤ 1 = omega arith in
-    let u2 : holders (set es i e) n ≤ 1 = once_fresh es i n a n l f z v in
-    table_status_found (set es i e) i n l2 h2 u2 ∙ (ap (λ (x : Entry). entry_status x n) g ∙ entry_has e n (has_fresh n a))
-
-pub add_after : (es : List Entry) (i n a : ℕ) → i < length es → used (get_or es i free_entry).stage ≡ 0 → holders es n ≡ 0 → (s : ℕ) → table_status (set es i (fresh n a)) s ≡ cond (eqb n s) (open_by a) (table_status es s)
-add_after es i n a l f z s =
-    elim (cases_eq n s) [
-      | inl q ↦ (let t : eqb n s ≡ true = grind arith in let b = table_status_fresh es i n a l f z in rw (t, ← q) b)
-      | inr ne ↦ (let t : eqb n s ≡ false = grind arith in rw t (table_status_other es i (fresh n a) s l (has_vacant (get_or es i free_entry) s f) (has_fresh_other n a s ne)))
-    ]
-
-pub add_count : (es : List Entry) (i n a : ℕ) → i < length es → used (get_or es i free_entry).stage ≡ 0 → in_use (set es i (fresh n a)) ≡ in_use es + 1
-add_count es i n a l f = let b = in_use_set es i (fresh n a) l in omega arith
-
-pub holders_fresh : (es : List Entry) (i n a : ℕ) → i < length es → used (get_or es i free_entry).stage ≡ 0 → (s : ℕ) → holders (set es i (fresh n a)) s ≡ holders es s + cond (eqb n s) 1 0
-holders_fresh es i n a l f s =
-    let b = holders_set es i (fresh n a) s l in
-    let h = has_vacant (get_or es i free_entry) s f in
-    omega arith
+pub past_put : (os : List (Option Entry)) (i : ℕ) (e : Entry) (s : ℕ) → position is_none os ≡ Some i → e.serial < s → holders os s ≡ 0 → holders (set os i (Some e)) s ≡ 0
+past_put os i e s h l z = let p = holders_put os i e s h in grind arith

@@ -1,5 +1,6 @@
 -- The answer of each call, and what stands under its serial then.
-use Rattle.std.specs.Prelude.{◌≡◌, ℕ, ◌<◌, max, false, cond, List, length, Ok, Err, Result, ◌==◌, nat_le, slice_index_or}
+use Rattle.std.specs.Prelude.{◌≡◌, ℕ, max, false, cond, is_none, List, Some, Ok, Err, Option, Result, ◌==◌, nat_le}
+use Rattle.std.specs.List.{position}
 use Rattle.refusals.specs.declared.Part.TheVariants as part
 use Rattle.refusals.specs.declared.Refusal.{Refusal}
 use Rattle.refusals.specs.Words.{refusal}
@@ -7,7 +8,7 @@ use Rattle.open_queries.specs.declared.fault.OpenFault.{OpenFault}
 use Rattle.open_queries.specs.declared.fault.OpenFault.TheVariants.{TooMany, LastSerial, NotOpen, NotInHand}
 use Rattle.open_queries.specs.declared.handover.Handover.{Handover}
 use Rattle.open_queries.specs.declared.entry.Entry.{Entry}
-use Rattle.open_queries.specs.Table.{Status, absent, open_by, in_hand_by, used, in_use, free_entry}
+use Rattle.open_queries.specs.Table.{Status, absent, open_by, in_hand_by, in_use, next_number}
 
 abbrev pub open_refusal : OpenFault → Refusal
 open_refusal TooMany = refusal 24 part.Open
@@ -74,10 +75,7 @@ abbrev pub accepted : {A : Type 0} → Result A OpenFault → ℕ
 accepted (Ok _) = 1
 accepted (Err _) = 0
 
--- A free entry of the table and the next serial, or the refusal of a new query.
-abbrev pub Vacancy : List Entry → ℕ → Result (ℕ × ℕ) OpenFault → Type 0
-Vacancy entries next (Ok p) =
-    (p.0 < length entries)
-    × (used (slice_index_or entries p.0 free_entry).stage ≡ 0)
-    × (add_answer (in_use entries) next ≡ Ok p.1)
-Vacancy entries next (Err e) = add_answer (in_use entries) next ≡ Err e
+-- The first free slot of the table and the next serial, or the refusal of a new query.
+abbrev pub Vacancy : List (Option Entry) → Option ℕ → Result (ℕ × ℕ) OpenFault → Type 0
+Vacancy slots next (Ok p) = (position is_none slots ≡ Some p.0) × (add_answer (in_use slots) (next_number next) ≡ Ok p.1)
+Vacancy slots next (Err e) = add_answer (in_use slots) (next_number next) ≡ Err e

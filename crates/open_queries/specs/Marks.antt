@@ -1,12 +1,11 @@
--- The one step that collect, hand over, put back and give up share: the query of a serial goes from one stage to another.
+-- The one step that collect, hand over, put back and give up share: the query of a serial goes from one stage to another, or ends.
 use Rattle.std.specs.Prelude.{ℕ, Bool, true, false, cond, Some, None, Option}
 use Rattle.open_queries.specs.declared.entry.Stage.{Stage}
-use Rattle.open_queries.specs.declared.entry.Stage.TheVariants.{Free, Open, InHand}
+use Rattle.open_queries.specs.declared.entry.Stage.TheVariants.{Open, InHand}
 use Rattle.open_queries.specs.Table.{Status, absent, open_by, in_hand_by, staged}
 
 -- Whether a query stands and is in a stage.
 abbrev pub in_stage : Stage → Status → Bool
-in_stage Free x = false
 in_stage Open absent = false
 in_stage Open (open_by n) = true
 in_stage Open (in_hand_by n) = false
@@ -26,7 +25,8 @@ weight absent = 0
 weight (open_by n) = 1
 weight (in_hand_by n) = 1
 
-abbrev pub marked : Stage → Stage → Status → Status
+-- A query in the first stage takes the second; no second stage ends it.
+abbrev pub marked : Stage → Option Stage → Status → Status
 marked from to x = cond (in_stage from x) (staged to (asker x)) x
 
 abbrev pub mark_answer : Stage → Status → Option ℕ

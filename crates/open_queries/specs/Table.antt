@@ -1,7 +1,8 @@
--- What a table of entries says of each serial, apart from which entry says it.
-use Rattle.std.specs.Prelude.{ℕ, ◌+◌, cond, List, [], ◌∷◌, ◌==◌}
+-- What a table of slots says of each serial, apart from which slot says it.
+use Rattle.std.specs.Prelude.{ℕ, Bool, false, cond, is_some, unwrap_or, Some, None, List, [], ◌∷◌, Option, ◌==◌}
+use Rattle.std.specs.List.{count_by}
 use Rattle.open_queries.specs.declared.entry.Stage.{Stage}
-use Rattle.open_queries.specs.declared.entry.Stage.TheVariants.{Free, Open, InHand}
+use Rattle.open_queries.specs.declared.entry.Stage.TheVariants.{Open, InHand}
 use Rattle.open_queries.specs.declared.entry.Entry.{Entry}
 
 -- What stands under a serial: nothing, an open query, or one in hand, which was collected and is not yet handed over or put
@@ -11,23 +12,20 @@ pub data Status : Type 0 where
   open_by : ℕ → Status
   in_hand_by : ℕ → Status
 
-abbrev pub staged : Stage → ℕ → Status
-staged Free n = absent
-staged Open n = open_by n
-staged InHand n = in_hand_by n
+-- What a stage and a set stand for; no stage is that no query stands.
+abbrev pub staged : Option Stage → ℕ → Status
+staged None n = absent
+staged (Some Open) n = open_by n
+staged (Some InHand) n = in_hand_by n
 
--- 1 where an entry is in use.
-abbrev pub used : Stage → ℕ
-used Free = 0
-used Open = 1
-used InHand = 1
+-- What one slot says of a serial, and whether it has it.
+abbrev pub slot_status : Option Entry → ℕ → Status
+slot_status None serial = absent
+slot_status (Some e) serial = cond (e.serial == serial) (staged (Some e.stage) e.set) absent
 
--- What one entry says of a serial, and 1 where it has it.
-abbrev pub entry_status : Entry → ℕ → Status
-entry_status e serial = cond (e.serial == serial) (staged e.stage e.set) absent
-
-abbrev pub has : Entry → ℕ → ℕ
-has e serial = cond (e.serial == serial) (used e.stage) 0
+abbrev pub has : ℕ → Option Entry → Bool
+has serial None = false
+has serial (Some e) = e.serial == serial
 
 abbrev pub or_else : Status → Status → Status
 or_else absent y = y
@@ -35,19 +33,18 @@ or_else (open_by n) y = open_by n
 or_else (in_hand_by n) y = in_hand_by n
 
 -- What the table says of a serial.
-abbrev pub table_status : List Entry → ℕ → Status
+abbrev pub table_status : List (Option Entry) → ℕ → Status
 table_status [] serial = absent
-table_status (e ∷ es) serial = or_else (entry_status e serial) (table_status es serial)
+table_status (o ∷ os) serial = or_else (slot_status o serial) (table_status os serial)
 
--- How many entries in use have a serial.
-abbrev pub holders : List Entry → ℕ → ℕ
-holders [] serial = 0
-holders (e ∷ es) serial = has e serial + holders es serial
+-- How many slots have a serial.
+abbrev pub holders : List (Option Entry) → ℕ → ℕ
+holders slots serial = count_by (has serial) slots
 
--- How many entries are in use.
-abbrev pub in_use : List Entry → ℕ
-in_use [] = 0
-in_use (e ∷ es) = used e.stage + in_use es
+-- How many slots are in use.
+abbrev pub in_use : List (Option Entry) → ℕ
+in_use slots = count_by is_some slots
 
-abbrev pub free_entry : Entry
-free_entry = record { serial = 0; set = 0; stage = Free }
+-- The next serial as a number: 4,294,967,296 where the last was given.
+abbrev pub next_number : Option ℕ → ℕ
+next_number next = unwrap_or next 4294967296

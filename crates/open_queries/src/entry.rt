@@ -2,7 +2,6 @@
 
 #[derive(Clone, Copy, PartialEq, Eq)]
 pub(crate) enum Stage {
-    Free,
     Open,
     InHand,
 }

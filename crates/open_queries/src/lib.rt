@@ -5,7 +5,6 @@ mod entry;
 mod fault;
 mod handover;
 mod open_queries;
-mod table;
 
 pub use fault::OpenFault;
 pub use handover::Handover;

@@ -1,6 +1,7 @@
 //! The calls on the open queries.
-ghost use Rattle.std.specs.Prelude.{◌≡◌, ℕ, ◌+◌, false, is_some, is_ok, if◌then◌else◌, nat_eq};
-ghost use Rattle.open_queries.specs.Table.{absent};
+ghost use Rattle.std.specs.Prelude.{◌≡◌, ℕ, ◌+◌, false, is_some, is_none, is_ok, if◌then◌else◌, nat_eq};
+ghost use Rattle.std.specs.List.{position};
+ghost use Rattle.open_queries.specs.Table.{absent, has};
 ghost use Rattle.open_queries.specs.Marks.{marked, mark_answer, weight};
 ghost use Rattle.open_queries.specs.View.{status_of, standing, next_of};
 ghost use Rattle.open_queries.specs.Calls.{first_serial, at_serial, accepted, collect_answer, collected, return_answer, handed_over, put_back, give_up_answer, given_up, add_answer, added, Vacancy};
@@ -9,10 +10,6 @@ use crate::entry::{Entry, Stage};
 use crate::fault::OpenFault;
 use crate::handover::Handover;
 use crate::open_queries::OpenQueries;
-use crate::table::{fill, find, vacant};
-
-// The last serial that is given.
-const LAST_SERIAL: u64 = 4_294_967_295;
 
 impl OpenQueries {
     /// No query stands; the first that is accepted gets the serial `first`, where 0 reads as 1.
@@ -21,35 +18,40 @@ impl OpenQueries {
         ensures none { (s : ℕ) → status_of result s ≡ absent }
         ensures count { standing result ≡ 0 }
     {
-        let next = first.max(1) as u64;
-        let free = Entry {
-            serial: 0,
-            set: 0,
-            stage: Stage::Free,
-        };
         OpenQueries {
-            next,
-            entries: [free; 64],
+            next: Some(first.max(1)),
+            entries: [None; 64],
         }
     }
 
-    // Turns the query of a serial from one stage to another, and tells the set that asked.
-    fn mark(&mut self, serial: u32, from: Stage, to: Stage) -> Option<u16>
+    // The slot that has a serial.
+    fn slot_of(&self, serial: u32) -> Option<usize>
+        ensures { result ≡ position (has serial) self.now.entries }
+    {
+        self.entries
+            .iter()
+            .position(|slot| slot.is_some_and(|entry| entry.serial == serial))
+    }
+
+    // The first slot that is free.
+    fn free_slot(&self) -> Option<usize>
+        ensures { result ≡ position is_none self.now.entries }
+    {
+        self.entries.iter().position(|slot| slot.is_none())
+    }
+
+    // Turns the query of a serial from one stage to another, or ends it, and tells the set that asked.
+    fn mark(&mut self, serial: u32, from: Stage, to: Option<Stage>) -> Option<u16>
         ensures answer { result ≡ mark_answer from (status_of self.old serial) }
         ensures after { (s : ℕ) → status_of self.new s ≡ (if nat_eq serial s then marked from to (status_of self.old s) else status_of self.old s) }
         ensures count { standing self.new + weight (status_of self.old serial) ≡ standing self.old + weight (status_of self.new serial) }
         ensures next { next_of self.new ≡ next_of self.old }
         ensures refused { is_some result ≡ false → self.new ≡ self.old }
     {
-        let Some(i) = find(&self.entries, serial) else {
-            return None;
-        };
-        let e = self.entries[i];
-        if e.stage != from {
-            return None;
-        }
-        self.entries[i].stage = to;
-        Some(e.set)
+        let i = self.slot_of(serial)?;
+        let entry = self.entries[i].filter(|entry| entry.stage == from)?;
+        self.entries[i] = to.map(|stage| Entry { stage, ..entry });
+        Some(entry.set)
     }
 
     /// Makes an open query one in hand, and gives out its handover.
@@ -60,14 +62,14 @@ impl OpenQueries {
         ensures next { next_of self.new ≡ next_of self.old }
         ensures refused { is_ok result ≡ false → self.new ≡ self.old }
     {
-        match self.mark(serial, Stage::Open, Stage::InHand) {
-            Some(set) => Ok(Handover {
-                serial,
-                set,
-                spent: false,
-            }),
-            None => Err(OpenFault::NotOpen),
-        }
+        let set = self
+            .mark(serial, Stage::Open, Some(Stage::InHand))
+            .ok_or(OpenFault::NotOpen)?;
+        Ok(Handover {
+            serial,
+            set,
+            spent: false,
+        })
     }
 
     /// Closes the query of a handover's serial, also where another box gave the handover out, and tells the set that asked by
@@ -80,10 +82,8 @@ impl OpenQueries {
         ensures refused { is_ok result ≡ false → self.new ≡ self.old }
     {
         handover.spent = true;
-        match self.mark(handover.serial, Stage::InHand, Stage::Free) {
-            Some(asker) => Ok(asker),
-            None => Err(OpenFault::NotInHand),
-        }
+        self.mark(handover.serial, Stage::InHand, None)
+            .ok_or(OpenFault::NotInHand)
     }
 
     /// Makes the query of a handover's serial open again, also where another box gave the handover out, and tells the set that
@@ -96,10 +96,8 @@ impl OpenQueries {
         ensures refused { is_ok result ≡ false → self.new ≡ self.old }
     {
         handover.spent = true;
-        match self.mark(handover.serial, Stage::InHand, Stage::Open) {
-            Some(set) => Ok(set),
-            None => Err(OpenFault::NotInHand),
-        }
+        self.mark(handover.serial, Stage::InHand, Some(Stage::Open))
+            .ok_or(OpenFault::NotInHand)
     }
 
     /// Closes an open query.
@@ -110,31 +108,26 @@ impl OpenQueries {
         ensures next { next_of self.new ≡ next_of self.old }
         ensures refused { is_ok result ≡ false → self.new ≡ self.old }
     {
-        match self.mark(serial, Stage::Open, Stage::Free) {
-            Some(_) => Ok(()),
-            None => Err(OpenFault::NotOpen),
-        }
+        self.mark(serial, Stage::Open, None)
+            .map(|_| ())
+            .ok_or(OpenFault::NotOpen)
     }
 
-    // A free entry and the next serial, or why no query can be added.
+    // A free slot and the next serial, or why no query can be added.
+    #[tactic(auto, using(crate::proofs::Tables::full, crate::proofs::Tables::room))]
     fn vacancy(&self) -> Result<(usize, u32), OpenFault>
         ensures { Vacancy self.now.entries self.now.next result }
     {
-        let Some(i) = vacant(&self.entries) else {
-            return Err(OpenFault::TooMany);
-        };
-        if self.next > LAST_SERIAL {
-            return Err(OpenFault::LastSerial);
-        }
-        Ok((i, self.next as u32))
+        let i = self.free_slot().ok_or(OpenFault::TooMany)?;
+        let serial = self.next.ok_or(OpenFault::LastSerial)?;
+        Ok((i, serial))
     }
 
     /// The serial that the next query will have, or why there is none.
     pub fn next_serial(&self) -> Result<u32, OpenFault>
         ensures { result ≡ add_answer (standing self.now) (next_of self.now) }
     {
-        let (_, serial) = self.vacancy()?;
-        Ok(serial)
+        self.vacancy().map(|(_, serial)| serial)
     }
 
     /// Adds an open query of a set, and tells its serial.
@@ -146,8 +139,12 @@ impl OpenQueries {
         ensures refused { is_ok result ≡ false → self.new ≡ self.old }
     {
         let (i, serial) = self.vacancy()?;
-        fill(&mut self.entries, i, serial, set);
-        self.next += 1;
+        self.entries[i] = Some(Entry {
+            serial,
+            set,
+            stage: Stage::Open,
+        });
+        self.next = serial.checked_add(1);
         Ok(serial)
     }
 }
