@@ -2,7 +2,6 @@
 #![tactic(auto)]
 
 ghost use Rattle.std.specs.Prelude.{◌≡◌, ◌++◌, IfOk, Some, string_bytes};
-ghost use Rattle.feed.specs.Bytes.{word as word_of};
 ghost use Rattle.feed.specs.Heading.{read_refusal, named, heading_of};
 ghost use Rattle.feed.specs.Text.{accepted_text, stop_text, heading_text};
 
@@ -17,6 +16,23 @@ pub enum Heading {
     Course,
     PlaneByWater,
     CourseByWater,
+}
+
+/// The place kind that a heading names by its number.
+impl TryFrom<u16> for Heading {
+    type Error = ReadFault;
+
+    ghost try_from_gives = { λ number r. r ≡ named number };
+
+    fn try_from(number: u16) -> Result<Self, ReadFault> {
+        match number {
+            1 => Ok(Heading::Plane),
+            2 => Ok(Heading::Course),
+            3 => Ok(Heading::PlaneByWater),
+            4 => Ok(Heading::CourseByWater),
+            _ => Err(ReadFault::NoPlaceKind),
+        }
+    }
 }
 
 /// Why a record cannot be read; each stops the feed.
@@ -62,26 +78,6 @@ impl fmt::Display for Stop {
     }
 }
 
-// The number in two bytes, the low one first.
-fn word(low: u8, high: u8) -> u16
-    ensures { result ≡ word_of low high }
-{
-    u16::from_le_bytes([low, high])
-}
-
-// The place kind that a heading names by its number.
-fn place_kind(number: u16) -> Result<Heading, ReadFault>
-    ensures { result ≡ named number }
-{
-    match number {
-        1 => Ok(Heading::Plane),
-        2 => Ok(Heading::Course),
-        3 => Ok(Heading::PlaneByWater),
-        4 => Ok(Heading::CourseByWater),
-        _ => Err(ReadFault::NoPlaceKind),
-    }
-}
-
 /// The heading with which the bytes begin.
 pub fn read_heading(bytes: &[u8]) -> Result<Heading, ReadFault>
     ensures { result ≡ heading_of bytes.now }
@@ -89,28 +85,29 @@ pub fn read_heading(bytes: &[u8]) -> Result<Heading, ReadFault>
     let [length_low, length_high, kind_low, kind_high, rest @ ..] = bytes else {
         return Err(ReadFault::Cut);
     };
-    let length = word(*length_low, *length_high) as usize;
+    let length = usize::from(u16::from_le_bytes([*length_low, *length_high]));
     if length < 4 || bytes.len() < length {
         return Err(ReadFault::Cut);
     }
-    if word(*kind_low, *kind_high) != 0 {
+    if u16::from_le_bytes([*kind_low, *kind_high]) != 0 {
         return Err(ReadFault::WrongKind);
     }
-    let [low, high] = &rest[0..length - 4] else {
+    let [low, high] = &rest[..length - 4] else {
         return Err(ReadFault::WrongLength);
     };
-    place_kind(word(*low, *high))
+    Heading::try_from(u16::from_le_bytes([*low, *high]))
 }
 
 /// The line that is printed for the first record of a feed.
 pub fn heading_line(heap: Global, bytes: &[u8]) -> Result<String, AllocError>
     ensures { IfOk result (λ s. string_bytes s ≡ heading_text (heading_of bytes.now)) }
 {
+    let number = 0;
     match read_heading(bytes) {
-        Ok(_) => format!(in heap; "{} ok", 0),
+        Ok(_) => format!(in heap; "{number} ok"),
         Err(fault) => {
             let stop = Stop {
-                number: 0,
+                number,
                 offset: 0,
                 fault,
             };
