@@ -2,11 +2,17 @@
 //! answers and the nanoseconds that the turns took; with none, the checksums of a short run of each task.
 #![tactic(auto)]
 
-use anyhow::anyhow;
+ghost use Rattle.std.specs.Prelude.{◌≤◌};
+
+use anyhow::{Context, anyhow};
 use kinds::PlanePlace;
 use register::{Register, RegisterFault, unused_slot};
 use std::env;
+use std::str::FromStr;
 use std::time::Instant;
+
+// The most sets that are present.
+const MOST_SETS: u16 = 4095;
 
 /// What is done in each turn.
 #[derive(Clone, Copy)]
@@ -19,6 +25,20 @@ enum Task {
     Bucket(u16),
 }
 
+impl FromStr for Task {
+    type Err = anyhow::Error;
+
+    fn from_str(name: &str) -> anyhow::Result<Task> {
+        match name {
+            "long" => Ok(Task::Long),
+            "short" => Ok(Task::Short),
+            "bucket10" => Ok(Task::Bucket(10)),
+            "bucket64" => Ok(Task::Bucket(64)),
+            _ => Err(anyhow!("a task is long, short, bucket10 or bucket64")),
+        }
+    }
+}
+
 /// Marsaglia's 32-bit xorshift.
 #[derive(Drop)]
 struct Random {
@@ -28,9 +48,9 @@ struct Random {
 impl Random {
     fn next(&mut self) -> u32 {
         let mut x = self.state;
-        x ^= x.wrapping_shl(13);
-        x ^= x.wrapping_shr(17);
-        x ^= x.wrapping_shl(5);
+        x ^= x << 13;
+        x ^= x >> 17;
+        x ^= x << 5;
         self.state = x;
         x
     }
@@ -39,165 +59,166 @@ impl Random {
         (self.next() % 4096) as u16
     }
 
-    // One of the sets 1 to `sets`.
-    fn set(&mut self, sets: u16) -> u16 {
-        if sets == 0 || sets > 4095 {
-            return 1;
+    // One of the sets 1 to `sets`; set 1 where that is none, or more than a register has.
+    fn set(&mut self, sets: u16) -> u16
+        ensures { 1 ≤ result }
+    {
+        match sets {
+            1..=MOST_SETS => 1 + (self.next() % u32::from(sets)) as u16,
+            _ => 1,
         }
-        1 + (self.next() % sets as u32) as u16
     }
 }
 
-/// Where each set starts, the cell beside it, and whether it stands there.
+/// Where a set starts, the cell beside it, and whether it stands there.
+#[derive(Clone, Copy)]
+struct Walk {
+    home: PlanePlace,
+    beside: PlanePlace,
+    away: bool,
+}
+
+impl Walk {
+    fn from_anywhere(random: &mut Random) -> Walk {
+        let x = random.coordinate();
+        let y = random.coordinate();
+        Walk {
+            home: PlanePlace::new(x, y),
+            beside: PlanePlace::new(x ^ 1, y),
+            away: false,
+        }
+    }
+
+    // Where the set goes on a short move.
+    fn next_door(&mut self) -> PlanePlace {
+        self.away = !self.away;
+        if self.away { self.beside } else { self.home }
+    }
+}
+
+/// A register, the walks of its sets, set 1 first, and the numbers that choose among them.
 #[derive(Drop)]
-struct Course {
-    home: [PlanePlace; 4096],
-    beside: [PlanePlace; 4096],
-    away: [bool; 4096],
-}
-
-fn scattered(random: &mut Random, sets: u16) -> Course {
-    let nowhere = PlanePlace::new(0, 0);
-    let mut home = [nowhere; 4096];
-    let mut beside = [nowhere; 4096];
-    for set in 1..4096usize {
-        if set <= sets as usize {
-            let x = random.coordinate();
-            let y = random.coordinate();
-            home[set] = PlanePlace::new(x, y);
-            beside[set] = PlanePlace::new(x ^ 1, y);
-        }
-    }
-    Course {
-        home,
-        beside,
-        away: [false; 4096],
-    }
-}
-
-impl Course {
-    fn home_of(&self, set: u16) -> PlanePlace {
-        self.home[set as usize % 4096]
-    }
-
-    // Where a set goes on a short move.
-    fn next_door(&mut self, set: u16) -> PlanePlace {
-        let n = set as usize % 4096;
-        let away = self.away[n];
-        self.away[n] = !away;
-        if away { self.home[n] } else { self.beside[n] }
-    }
-}
-
-fn mixed(sum: u64, x: u16) -> u64 {
-    sum.wrapping_mul(31).wrapping_add(x as u64)
-}
-
-// A checksum of the bucket of a set.
-fn bucket_sum(
-    register: &Register<'_, PlanePlace>,
-    set: u16,
-    size: u16,
-    sum: u64,
-) -> Result<u64, RegisterFault> {
-    let bucket = register.bucket(set, size)?;
-    let mut sum = mixed(sum, bucket.ends.first);
-    sum = mixed(sum, bucket.ends.last);
-    sum = mixed(sum, bucket.region.low_x);
-    sum = mixed(sum, bucket.region.high_x);
-    sum = mixed(sum, bucket.region.low_y);
-    Ok(mixed(sum, bucket.region.high_y))
-}
-
-fn turns(
-    register: &mut Register<'_, PlanePlace>,
-    course: &mut Course,
-    random: &mut Random,
-    task: Task,
+struct Scene<'a> {
+    register: Register<'a, PlanePlace>,
+    walks: Vec<Walk>,
+    random: Random,
     sets: u16,
-    count: u32,
-) -> Result<u64, RegisterFault> {
-    let mut sum = 0;
-    for _ in 0..count {
-        let set = random.set(sets);
-        match task {
-            Task::Long => {
-                let place = course.home_of(random.set(sets));
-                register.relocate(set, place)?;
-            }
-            Task::Short => {
-                let place = course.next_door(set);
-                register.relocate(set, place)?;
-            }
-            Task::Bucket(size) => sum = bucket_sum(register, set, size, sum)?,
-        }
+}
+
+impl Scene<'_> {
+    // A set moves to a place where some set starts.
+    fn long(&mut self) -> Result<(), RegisterFault> {
+        let set = self.random.set(self.sets);
+        let other = self.random.set(self.sets);
+        let walk = self
+            .walks
+            .get(usize::from(other) - 1)
+            .ok_or(RegisterFault::NoSuchSet)?;
+        let place = walk.home;
+        self.register.relocate(set, place)
     }
-    Ok(sum)
+
+    // A set moves next door.
+    fn short(&mut self) -> Result<(), RegisterFault> {
+        let set = self.random.set(self.sets);
+        let walk = self
+            .walks
+            .get_mut(usize::from(set) - 1)
+            .ok_or(RegisterFault::NoSuchSet)?;
+        let place = walk.next_door();
+        self.register.relocate(set, place)
+    }
+
+    // A checksum of the bucket of a set.
+    fn bucket_sum(&self, set: u16, size: u16, sum: u64) -> Result<u64, RegisterFault> {
+        let bucket = self.register.bucket(set, size)?;
+        let (ends, region) = (bucket.ends, bucket.region);
+        let numbers = [
+            ends.first,
+            ends.last,
+            region.low_x,
+            region.high_x,
+            region.low_y,
+            region.high_y,
+        ];
+        Ok(
+            numbers.iter().fold(
+                sum,
+                |sum, x| sum.wrapping_mul(31).wrapping_add(u64::from(*x)),
+            ),
+        )
+    }
+
+    // A checksum of the bucket of any set.
+    fn bucket(&mut self, size: u16, sum: u64) -> Result<u64, RegisterFault> {
+        let set = self.random.set(self.sets);
+        self.bucket_sum(set, size, sum)
+    }
 }
 
 // The checksum of a run, and the nanoseconds that its turns took.
-fn run(rt: &HostRuntime, task: Task, sets: u16, count: u32) -> anyhow::Result<(u64, u128)> {
+fn run<F: Fn(&mut Scene<'_>, u64) -> Result<u64, RegisterFault>>(
+    rt: &HostRuntime,
+    sets: u16,
+    count: u32,
+    turn: F,
+) -> anyhow::Result<(u64, u128)>
+    requires { F.IsAlwaysCallable turn }
+{
     let mut random = Random { state: 1 };
-    let mut course = scattered(&mut random, sets);
+    let walks = (0..sets.min(MOST_SETS))
+        .map(|_| Walk::from_anywhere(&mut random))
+        .collect::<Vec<Walk>>(rt.alloc())?;
     let mut slots = [unused_slot(PlanePlace::new(0, 0)); 4096];
     let mut register = Register::new(&mut slots);
-    for set in 1..4096u16 {
-        if set <= sets {
-            let _ = register.enter(set, course.home_of(set));
-        }
+    for (set, walk) in (1..4096u16).zip(&walks) {
+        let _ = register.enter(set, walk.home);
     }
-    let start = Instant::now(rt)?;
-    let Ok(mut sum) = turns(&mut register, &mut course, &mut random, task, sets, count) else {
-        return Err(anyhow!("a call was refused"));
+    let mut scene = Scene {
+        register,
+        walks,
+        random,
+        sets,
     };
+    let start = Instant::now(rt)?;
+    let mut sum = 0;
+    for _ in 0..count {
+        sum = turn(&mut scene, sum).map_err(|_| anyhow!("a call was refused"))?;
+    }
     let time = start.elapsed(rt)?.as_nanos();
-    for set in 1..4096u16 {
-        if set <= sets {
-            let Ok(more) = bucket_sum(&register, set, 10, sum) else {
-                return Err(anyhow!("a bucket was refused"));
-            };
-            sum = more;
-        }
+    for set in 1..=sets.min(MOST_SETS) {
+        sum = scene
+            .bucket_sum(set, 10, sum)
+            .map_err(|_| anyhow!("a bucket was refused"))?;
     }
     Ok((sum, time))
 }
 
-fn task_named(name: &str) -> anyhow::Result<Task> {
-    match name {
-        "long" => Ok(Task::Long),
-        "short" => Ok(Task::Short),
-        "bucket10" => Ok(Task::Bucket(10)),
-        "bucket64" => Ok(Task::Bucket(64)),
-        _ => Err(anyhow!("a task is long, short, bucket10 or bucket64")),
+fn run_task(rt: &HostRuntime, task: Task, sets: u16, count: u32) -> anyhow::Result<(u64, u128)> {
+    match task {
+        Task::Long => run(rt, sets, count, |scene, sum| scene.long().map(|()| sum)),
+        Task::Short => run(rt, sets, count, |scene, sum| scene.short().map(|()| sum)),
+        Task::Bucket(size) => run(rt, sets, count, |scene, sum| scene.bucket(size, sum)),
     }
 }
 
 fn check_all(rt: &HostRuntime) -> anyhow::Result<()> {
     for name in ["long", "short", "bucket10", "bucket64"] {
-        let (sum, _) = run(rt, task_named(name)?, 255, 1000)?;
+        let (sum, _) = run_task(rt, name.parse()?, 255, 1000)?;
         println!(rt; "{name} {sum}")?;
     }
     Ok(())
 }
 
-fn start(rt: &HostRuntime) -> anyhow::Result<()> {
-    let mut words = env::args(rt)?;
-    let _ = words.next();
+fn main(rt: HostRuntime) -> anyhow::Result<()> {
+    let mut words = env::args(&rt)?.skip(1);
     let Some(name) = words.next() else {
-        return check_all(rt);
+        return check_all(&rt);
     };
-    let task = task_named(name.as_str())?;
-    let Some(sets) = words.next() else {
-        return Err(anyhow!("how many sets?"));
-    };
-    let Some(count) = words.next() else {
-        return Err(anyhow!("how many turns?"));
-    };
-    let (sum, time) = run(rt, task, sets.parse::<u16>()?, count.parse::<u32>()?)?;
+    let task = name.parse()?;
+    let sets = words.next().context("how many sets?")?;
+    let count = words.next().context("how many turns?")?;
+    let (sum, time) = run_task(&rt, task, sets.parse()?, count.parse()?)?;
     println!(rt; "{sum} {time}")?;
     Ok(())
-}
-
-fn main(rt: HostRuntime) -> anyhow::Result<()> {
-    start(&rt)
 }
