@@ -79,6 +79,7 @@ struct Walk {
 }
 
 impl Walk {
+    // A walk that starts anywhere.
     fn from_anywhere(random: &mut Random) -> Walk {
         let x = random.coordinate();
         let y = random.coordinate();
@@ -94,6 +95,11 @@ impl Walk {
         self.away = !self.away;
         if self.away { self.beside } else { self.home }
     }
+}
+
+// A checksum with one number more.
+fn mixed(sum: u64, x: &u16) -> u64 {
+    sum.wrapping_mul(31).wrapping_add(u64::from(*x))
 }
 
 /// A register, the walks of its sets, set 1 first, and the numbers that choose among them.
@@ -141,12 +147,7 @@ impl Scene<'_> {
             region.low_y,
             region.high_y,
         ];
-        Ok(
-            numbers.iter().fold(
-                sum,
-                |sum, x| sum.wrapping_mul(31).wrapping_add(u64::from(*x)),
-            ),
-        )
+        Ok(numbers.iter().fold(sum, mixed))
     }
 
     // A checksum of the bucket of any set.
@@ -194,6 +195,7 @@ fn run<F: Fn(&mut Scene<'_>, u64) -> Result<u64, RegisterFault>>(
     Ok((sum, time))
 }
 
+// A run whose turns do the task.
 fn run_task(rt: &HostRuntime, task: Task, sets: u16, count: u32) -> anyhow::Result<(u64, u128)> {
     match task {
         Task::Long => run(rt, sets, count, |scene, sum| scene.long().map(|()| sum)),
@@ -202,6 +204,7 @@ fn run_task(rt: &HostRuntime, task: Task, sets: u16, count: u32) -> anyhow::Resu
     }
 }
 
+// Prints the checksum of a short run of each task.
 fn check_all(rt: &HostRuntime) -> anyhow::Result<()> {
     for name in ["long", "short", "bucket10", "bucket64"] {
         let (sum, _) = run_task(rt, name.parse()?, 255, 1000)?;

@@ -39,8 +39,7 @@ mod tests {
         let mut slots = [unused_slot(PlanePlace::new(0, 0)); 8];
         let mut register = Register::new(&mut slots);
         let cells = [(0, 0), (1, 0), (1, 1), (0, 1), (0, 3), (3, 3), (3, 0)];
-        for set in 1..8u16 {
-            let (x, y) = cells[set as usize - 1];
+        for (set, (x, y)) in (1..8u16).zip(cells) {
             register.enter(set, PlanePlace::new(x, y))?;
         }
         for set in 1..4u16 {
@@ -161,11 +160,8 @@ mod tests {
             );
             assert!(rt; register.height() <= 16);
         }
-        for (n, slot) in slots.iter().enumerate() {
-            if n == 0 || n > 4095 {
-                assert_eq!(rt; slot.count, 9);
-            }
-        }
+        let mut unused = slots.iter().take(1).chain(slots.iter().skip(4096));
+        assert!(rt; unused.all(|slot| slot.count == 9));
         Ok(())
     }
 
@@ -212,25 +208,32 @@ mod tests {
         Ok(())
     }
 
-    // Where in 1 to 4,095 step i of a walk in one of three orders stands: rising, falling, or by a stride that shares no factor.
-    fn step_of(order: u8, i: u16) -> u16 {
-        match order {
-            0 => i,
-            1 => 4096u16.saturating_sub(i),
-            _ => 1 + (i as u32 * 1_234 % 4_095) as u16,
-        }
+    // Three orders of the sets 1 to 4,095, by the set of step i: rising, falling, and by a stride that shares no factor.
+    fn rising(i: u16) -> u16 {
+        i
+    }
+
+    fn falling(i: u16) -> u16 {
+        4096u16.saturating_sub(i)
+    }
+
+    fn striding(i: u16) -> u16 {
+        1 + (u32::from(i) * 1_234 % 4_095) as u16
     }
 
     // Enters all sets in one order, and lets them leave in another.
-    fn fill_and_empty(
+    fn fill_and_empty<C: Fn(u16) -> u16, G: Fn(u16) -> u16>(
         rt: &impl Abort,
         slots: &mut [Node<CoursePlace, CourseRegion>],
-        come: u8,
-        go: u8,
-    ) -> Result<(), Fail> {
+        come: C,
+        go: G,
+    ) -> Result<(), Fail>
+        requires come { C.IsAlwaysCallable come }
+        requires go { G.IsAlwaysCallable go }
+    {
         let mut register = Register::new(slots);
         for i in 1..4096u16 {
-            let set = step_of(come, i);
+            let set = come(i);
             let place = CoursePlace {
                 reach: 1 + set / 5,
                 offset: set % 5,
@@ -241,11 +244,24 @@ mod tests {
         assert!(rt; register.height() <= 16);
         assert_eq!(rt; ends_of(&register, 4095, 64), ends(3968, 4094));
         for i in 1..4096u16 {
-            register.leave(step_of(go, i))?;
+            register.leave(go(i))?;
         }
         assert_eq!(rt; register.count(), 0);
         assert_eq!(rt; register.height(), 0);
         Ok(())
+    }
+
+    // Enters all sets in one order, and lets them leave in each of the three.
+    fn fill_and_empty_in_each<C: Fn(u16) -> u16>(
+        rt: &impl Abort,
+        slots: &mut [Node<CoursePlace, CourseRegion>],
+        come: C,
+    ) -> Result<(), Fail>
+        requires { C.IsAlwaysCallable come }
+    {
+        fill_and_empty(rt, slots, &come, rising)?;
+        fill_and_empty(rt, slots, &come, falling)?;
+        fill_and_empty(rt, slots, &come, striding)
     }
 
     #[test]
@@ -255,11 +271,8 @@ mod tests {
             offset: 0,
         };
         let mut slots = vec![in rt.alloc(); unused_slot(place); 4096]?;
-        for come in 0..3u8 {
-            for go in 0..3u8 {
-                fill_and_empty(&rt, slots.as_mut_slice(), come, go)?;
-            }
-        }
-        Ok(())
+        fill_and_empty_in_each(&rt, slots.as_mut_slice(), rising)?;
+        fill_and_empty_in_each(&rt, slots.as_mut_slice(), falling)?;
+        fill_and_empty_in_each(&rt, slots.as_mut_slice(), striding)
     }
 }
