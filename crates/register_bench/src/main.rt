@@ -142,10 +142,10 @@ impl Scene<'_> {
         let numbers = [
             ends.first,
             ends.last,
-            region.low_x,
-            region.high_x,
-            region.low_y,
-            region.high_y,
+            region.x.low,
+            region.x.high,
+            region.y.low,
+            region.y.high,
         ];
         Ok(numbers.iter().fold(sum, mixed))
     }

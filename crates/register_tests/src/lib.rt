@@ -5,7 +5,7 @@
 mod tests {
     use buckets::Ends;
     use kinds::{
-        CoursePlace, CourseRegion, KindFault, PlaceKind, PlanePlace, PlaneRegion, WaterPlace,
+        CoursePlace, CourseRegion, KindFault, PlaceKind, PlanePlace, PlaneRegion, Span, WaterPlace,
     };
     use register::{Register, RegisterFault, unused_slot};
     use std::process::Abort;
@@ -26,12 +26,8 @@ mod tests {
     }
 
     fn square(low: u16, high: u16) -> PlaneRegion {
-        PlaneRegion {
-            low_x: low,
-            high_x: high,
-            low_y: low,
-            high_y: high,
-        }
+        let side = Span { low, high };
+        PlaneRegion { x: side, y: side }
     }
 
     #[test]
@@ -194,7 +190,7 @@ mod tests {
         assert_eq!(rt; ends_of(&register, 65, 64), ends(64, 127));
         assert_eq!(rt; ends_of(&register, 4095, 64), ends(3968, 4094));
         let region = register.bucket(2000, 10)?.region;
-        assert_eq!(rt; (region.low, region.high), (0, 0));
+        assert_eq!(rt; (region.water.low, region.water.high), (0, 0));
         assert_eq!(rt; region.below, square(0, 0));
         for set in 1..4096u16 {
             register.relocate(set, mooring(set))?;
@@ -202,9 +198,9 @@ mod tests {
         assert_eq!(rt; register.count(), 4095);
         assert!(rt; register.height() <= 16);
         let two_waters = register.bucket(4095, 64)?.region;
-        assert_eq!(rt; (two_waters.low, two_waters.high), (0, 1));
+        assert_eq!(rt; (two_waters.water.low, two_waters.water.high), (0, 1));
         let last = register.bucket(4091, 64)?.region;
-        assert_eq!(rt; (last.low, last.high), (2, 2));
+        assert_eq!(rt; (last.water.low, last.water.high), (2, 2));
         Ok(())
     }
 
