@@ -13,10 +13,7 @@ use curve::Cell;
 pub extern "C" fn device_curve_key(x: u16, y: u16) -> u32
     ensures { result ≡ packed_key (grid_key (cell_xy x y)) }
 {
-    match curve::key_of(Cell { x, y }) {
-        Some(key) => key,
-        None => u32::MAX,
-    }
+    curve::key_of(Cell { x, y }).unwrap_or(u32::MAX)
 }
 
 /// The cell of a key, packed, or `u32::MAX`.
@@ -24,8 +21,5 @@ pub extern "C" fn device_curve_key(x: u16, y: u16) -> u32
 pub extern "C" fn device_curve_cell(key: u32) -> u32
     ensures { result ≡ packed_cell (grid_cell key) }
 {
-    match curve::cell_of(key) {
-        Some(cell) => cell.x as u32 + 65536 * cell.y as u32,
-        None => u32::MAX,
-    }
+    curve::cell_of(key).map_or(u32::MAX, |cell| cell.x as u32 + 65536 * cell.y as u32)
 }

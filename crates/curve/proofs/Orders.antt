@@ -1,12 +1,13 @@
 -- The laws of the curve by induction on its order, and the steps of the code from order to order.
-use Rattle.std.proofs.Common.{◌≡◌, ℕ, zero, suc, ◌+◌, ◌-◌, ◌*◌, ◌/◌, ◌%◌, ◌^◌, ◌<◌, ◌≤◌, sym, refl, ap, ◌∙◌, subst, ⊎_elim, mul-le-mul_right, mul_assoc, add-mul, mul-pos, pow-suc, mul-add, add-one, arith, pow_mono}
+use Rattle.std.proofs.Common.{◌≡◌, ℕ, zero, suc, ◌+◌, ◌-◌, ◌*◌, ◌/◌, ◌%◌, ◌^◌, ◌<◌, ◌≤◌, sym, refl, ap, ◌∙◌, subst, ⊎_elim, mul-le-mul_right, mul_assoc, add-mul, mul-pos, pow-suc, mul-add, add-one, arith}
 use mathlib.Core.Path.{subst⁻¹}
 use native.Mathlib.Nat.{zero-div, zero-mod}
-use Rattle.std.proofs.lemmas.Nat.{mul-le, pow_pos, div-mul-add, mod-mul-add, mul-add-lt, div_below, mod_below, div-add-mod'}
+use Rattle.std.proofs.lemmas.Bool.{cases_lt}
+use Rattle.std.proofs.lemmas.Nat.{pow_pos, div-mul-add, mod-mul-add, mul-add-lt, div_below, mod_below, div-add-mod'}
 use Rattle.curve.specs.declared.Cell.{Cell}
 use Rattle.curve.specs.Hilbert.{cell, cells, digit, inner, key_of, outer, cell_of}
 use Rattle.curve.specs.Laws.{InSquare, Beside, CurveLaws}
-use Rattle.curve.proofs.Quarters.{below_or_not, same_cell, goes_in, goes_out, beside_within, beside_across}
+use Rattle.curve.proofs.Quarters.{same_cell, goes_in, goes_out, beside_within, beside_across}
 
 -- The square of the next order has twice the side and four times the cells.
 double : (m : ℕ) → 2 ^ suc m ≡ 2 ^ m + 2 ^ m
@@ -56,15 +57,20 @@ cell_inside (suc m) k h =
     let ih = cell_inside m (k % cells m) (rest_below m k) in
     joins m _ (goes_out (2 ^ m) (k / cells m) (cell_of m (k % cells m)) (first_digit m k h) ih).inside
 
+key_outer : (m d : ℕ) (c : Cell) → d < 4 → InSquare (2 ^ m) c → key_of (suc m) (outer (2 ^ m) d c) ≡ d * cells m + key_of m c
+key_outer m d c h w =
+    let t = goes_out (2 ^ m) d c h w in
+    ap (λ (e : ℕ). e * cells m + key_of m (inner (2 ^ m) (outer (2 ^ m) d c))) t.digit_back
+    ∙ ap (λ (j : ℕ). d * cells m + j) (ap (key_of m) t.inner_back)
+
 key_of_cell : (m k : ℕ) → k < cells m → key_of m (cell_of m k) ≡ k
 key_of_cell zero k h = omega arith
 key_of_cell (suc m) k h =
     let i = cell_of m (k % cells m) in
     let w = cell_inside m (k % cells m) (rest_below m k) in
     let ih = key_of_cell m (k % cells m) (rest_below m k) in
-    let t = goes_out (2 ^ m) (k / cells m) i (first_digit m k h) w in
-    ap (λ (d : ℕ). d * cells m + key_of m (inner (2 ^ m) (outer (2 ^ m) (k / cells m) i))) t.digit_back
-    ∙ ap (λ (j : ℕ). k / cells m * cells m + j) (ap (key_of m) t.inner_back ∙ ih)
+    key_outer m (k / cells m) i (first_digit m k h) w
+    ∙ ap (λ (j : ℕ). k / cells m * cells m + j) ih
     ∙ div-add-mod' k (cells m)
 
 one_key : (m : ℕ) (a b : Cell) → InSquare (2 ^ m) a → InSquare (2 ^ m) b → key_of m a ≡ key_of m b → a ≡ b
@@ -109,14 +115,14 @@ steps_beside (suc m) k h =
     let e' : suc d * n + 0 ≡ suc k = omega (arith, add-mul d 1 n) in
     let er : r ≡ n - 1 = omega arith in
     let ld : d < 3 =
-    ⊎_elim (λ i. i) (λ (i : 3 ≤ d). absurd (omega (arith, four m, mul-le-mul_right n i))) (below_or_not d 3) in
+    ⊎_elim (λ i. i) (λ (i : 3 ≤ d). absurd (omega (arith, four m, mul-le-mul_right n i))) (cases_lt d 3) in
     subst (λ (j : ℕ). Beside (cell_of (suc m) k) (cell_of (suc m) j)) e'
     (subst⁻¹ (λ (c : Cell). Beside (outer (2 ^ m) d (cell_of m r)) c)
     (cell_split m (suc d) 0 p ∙ ap (outer (2 ^ m) (suc d)) (begins m))
     (subst⁻¹ (λ (c : Cell). Beside (outer (2 ^ m) d c) (outer (2 ^ m) (suc d) (cell 0 0)))
     (ap (cell_of m) er ∙ ends m)
     (beside_across (2 ^ m) d (pow_pos m) ld))))
-    (below_or_not (suc r) n)
+    (cases_lt (suc r) n)
 
 pub curve_laws : (m : ℕ) → CurveLaws m
 curve_laws m =
@@ -130,75 +136,53 @@ curve_laws m =
           subst⁻¹ (λ (j : ℕ). Beside (cell_of m k) (cell_of m j)) (add-one k) (steps_beside m k (rw add-one at h));
     }
 
--- One step of `key_at`, whose order m is not 0: s is the side of a quarter.
-pub quarter_fits : (m s : ℕ) (c : Cell) → (m ≡ 0 → ⊥) → m ≤ 12 → InSquare (2 ^ m) c → s ≡ 2 ^ (m - 1)
-    → (0 < s) × ((s ≤ 2048) × InSquare (s + s) c)
-quarter_fits zero s c n h w e = absurd (n refl)
-quarter_fits (suc m) s c n h w e =
-    let i : suc m - 1 ≡ m = omega arith in
-    let f : s ≡ 2 ^ m = e ∙ ap (λ (j : ℕ). 2 ^ j) i in
-    let l : m ≤ 11 = omega arith in
-    let b : 2 ^ m ≤ 2048 = pow_mono l in
-    (omega (arith, pow_pos m), (omega arith, subst⁻¹ (λ (j : ℕ). InSquare (j + j) c) f (halves m c w)))
-
+-- One step of `key_at`, from order n to order m.
 pub record KeyFound (m : ℕ) (c : Cell) (k : ℕ) : Type 0 where
   pub value : k ≡ key_of m c
   pub below : k < cells m
   pub back : cell_of m k ≡ c
 
-pub key_made : (m s d k : ℕ) (c i : Cell) → (m ≡ 0 → ⊥) → InSquare (2 ^ m) c → s ≡ 2 ^ (m - 1) → d ≡ digit s c → i ≡ inner s c
-    → k ≡ key_of (m - 1) i → KeyFound m c (d * (s * s) + k)
-key_made zero s d k c i n w es ed ei ek = absurd (n refl)
-key_made (suc m) s d k c i n w es ed ei ek =
-    let j : suc m - 1 ≡ m = omega arith in
-    let f : s ≡ 2 ^ m = es ∙ ap (λ (j : ℕ). 2 ^ j) j in
-    let ed' : d ≡ digit (2 ^ m) c = ed ∙ ap (λ (j : ℕ). digit j c) f in
-    let ei' : i ≡ inner (2 ^ m) c = ei ∙ ap (λ (j : ℕ). inner j c) f in
-    let ek' : k ≡ key_of m (inner (2 ^ m) c) = ek ∙ ap (λ (j : ℕ). key_of j i) j ∙ ap (key_of m) ei' in
-    let e : d * (s * s) + k ≡ key_of (suc m) c =
-    ap (λ (j : ℕ). d * (j * j) + k) f ∙ ap (λ (j : ℕ). j * cells m + k) ed'
-    ∙ ap (λ (j : ℕ). digit (2 ^ m) c * cells m + j) ek' in
+pub key_found : (m n s d k : ℕ) (c i : Cell) → InSquare (2 ^ m) c → n + 1 ≡ m → s ≡ 2 ^ n → d ≡ digit (2 ^ n) c
+    → i ≡ inner (2 ^ n) c → k ≡ key_of n i → KeyFound m c (d * (s * s) + k)
+key_found m n s d k c i w em es ed ei ek =
+    let e : suc n ≡ m = sym (add-one n) ∙ em in
+    let f : d * (s * s) + k ≡ key_of (suc n) c = cc in
+    let value : d * (s * s) + k ≡ key_of m c = f ∙ ap (λ (o : ℕ). key_of o c) e in
     record {
-      value = e;
-      below = subst⁻¹ (λ (j : ℕ). j < cells (suc m)) e (key_below (suc m) c w);
-      back = ap (cell_of (suc m)) e ∙ cell_of_key (suc m) c w;
+      value = value;
+      below = subst⁻¹ (λ (j : ℕ). j < cells m) value (key_below m c w);
+      back = ap (cell_of m) value ∙ cell_of_key m c w;
     }
 
-pub cells_most : (m : ℕ) → m ≤ 12 → cells m ≤ 16777216
-cells_most m h = let p : 2 ^ m ≤ 4096 = pow_mono h in mul-le (2 ^ m) (2 ^ m) 4096 4096 p p
-
-pub quarter_most : (s d : ℕ) → s ≤ 2048 → d < 4 → d * (s * s) ≤ 12582912
-quarter_most s d hs hd = let q : d ≤ 3 = omega arith in mul-le d (s * s) 3 4194304 q (mul-le s s 2048 2048 hs hs)
-
--- One step of `cell_from`, which has m digits left, not 0, and n behind it.
-pub side_most : (m n s : ℕ) → (m ≡ 0 → ⊥) → m + n ≤ 12 → s ≡ 2 ^ n → s ≤ 2048
-side_most m n s z h e = let l : n ≤ 11 = omega arith in let b : 2 ^ n ≤ 2048 = pow_mono l in omega arith
-
+-- One step of `reached`, which has m digits left and goes out from order n to order o.
 pub fewer_digits : (m k : ℕ) → (m ≡ 0 → ⊥) → k < cells m → k / 4 < cells (m - 1)
 fewer_digits zero k z h = absurd (z refl)
 fewer_digits (suc m) k z h =
     let e : suc m - 1 ≡ m = omega arith in
     subst⁻¹ (λ (i : ℕ). k / 4 < cells i) e (div_below k 4 (cells m) (omega arith) (omega (arith, four m)))
 
-pub next_square : (n s : ℕ) (c : Cell) → s ≡ 2 ^ n → InSquare (s + s) c → InSquare (2 ^ (n + 1)) c
-next_square n s c e w =
-    subst⁻¹ (λ (i : ℕ). InSquare (2 ^ i) c) (add-one n) (joins n c (subst (λ (i : ℕ). InSquare (i + i) c) e w))
-
-pub cell_made : (m n k s : ℕ) (c o r : Cell) → (m ≡ 0 → ⊥) → s ≡ 2 ^ n → o ≡ outer s (k % 4) c
-    → ((j : ℕ) → j < cells (n + 1) → o ≡ cell_of (n + 1) j → r ≡ cell_of (m - 1 + (n + 1)) (k / 4 * cells (n + 1) + j))
-    → (j : ℕ) → j < cells n → c ≡ cell_of n j → r ≡ cell_of (m + n) (k * cells n + j)
-cell_made m n k s c o r z es eo ih j h ec =
-    let f : cells (n + 1) ≡ 4 * cells n = ap cells (add-one n) ∙ four n in
-    let lk : k % 4 < 4 = mod_below k 4 (omega arith) in
-    let l : k % 4 * cells n + j < cells (n + 1) = omega (arith, mul-add-lt (k % 4) (cells n) j 4 lk h) in
-    let eo' : o ≡ cell_of (n + 1) (k % 4 * cells n + j) =
-    eo ∙ ap (λ (i : ℕ). outer i (k % 4) c) es ∙ ap (outer (2 ^ n) (k % 4)) ec ∙ sym (cell_split n (k % 4) j h)
-    ∙ ap (λ (i : ℕ). cell_of i (k % 4 * cells n + j)) (sym (add-one n)) in
-    let em : m - 1 + (n + 1) ≡ m + n = omega arith in
+next_digit : (n o k : ℕ) (c d : Cell) → o ≡ n + 1 → InSquare (2 ^ n) c → d ≡ outer (2 ^ n) (k % 4) c
+    → k / 4 * cells o + key_of o d ≡ k * cells n + key_of n c
+next_digit n o k c d eo w ed =
+    let e : o ≡ suc n = eo ∙ add-one n in
+    let f : cells o ≡ 4 * cells n = ap cells e ∙ four n in
+    let g : key_of o d ≡ k % 4 * cells n + key_of n c =
+    ap (λ (i : ℕ). key_of i d) e ∙ ap (key_of (suc n)) ed ∙ key_outer n (k % 4) c (mod_below k 4 (omega arith)) w in
     let p : (k / 4 * 4 + k % 4) * cells n ≡ k * cells n = ap (λ (i : ℕ). i * cells n) (div-add-mod' k 4) in
-    let q : k / 4 * cells (n + 1) ≡ k / 4 * (4 * cells n) = ap (λ (i : ℕ). k / 4 * i) f in
-    let ek : k / 4 * cells (n + 1) + (k % 4 * cells n + j) ≡ k * cells n + j =
-    omega (arith, add-mul (k / 4 * 4) (k % 4) (cells n), mul_assoc (k / 4) 4 (cells n)) in
-    ih (k % 4 * cells n + j) l eo'
-    ∙ ap (λ (i : ℕ). cell_of i (k / 4 * cells (n + 1) + (k % 4 * cells n + j))) em
-    ∙ ap (cell_of (m + n)) ek
+    let q : k / 4 * cells o ≡ k / 4 * (4 * cells n) = ap (λ (i : ℕ). k / 4 * i) f in
+    omega (arith, add-mul (k / 4 * 4) (k % 4) (cells n), mul_assoc (k / 4) 4 (cells n))
+
+pub reached_next : (m n o k : ℕ) (c d r : Cell) → (m ≡ 0 → ⊥) → o ≡ n + 1 → InSquare (2 ^ n) c → d ≡ outer (2 ^ n) (k % 4) c
+    → r ≡ cell_of (m - 1 + o) (k / 4 * cells o + key_of o d) → r ≡ cell_of (m + n) (k * cells n + key_of n c)
+reached_next m n o k c d r z eo w ed ih =
+    let e : m - 1 + o ≡ m + n = omega arith in
+    ih ∙ ap (cell_of (m - 1 + o)) (next_digit n o k c d eo w ed) ∙ ap (λ (i : ℕ). cell_of i (k * cells n + key_of n c)) e
+
+-- Where no digit is left, the key is that of the cell itself.
+pub reached_now : (m n k : ℕ) (c : Cell) → m ≡ 0 → k < cells m → InSquare (2 ^ n) c → c ≡ cell_of (m + n) (k * cells n + key_of n c)
+reached_now zero n k c z h w =
+    let zero_key : k ≡ 0 = omega arith in
+    let e : 0 + n ≡ n = omega arith in
+    let g : 0 * cells n + key_of n c ≡ key_of n c = omega arith in
+    rw (zero_key, e, g) (sym (cell_of_key n c w))
+reached_now (suc m) n k c z h w = absurd (omega arith)

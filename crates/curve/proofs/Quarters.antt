@@ -1,15 +1,10 @@
 -- One step of the curve: from a cell in a square of side s + s into its quarter of side s, and out again.
-use Rattle.std.proofs.Common.{◌≡◌, ℕ, zero, suc, ◌+◌, ◌-◌, ◌/◌, ◌%◌, ◌<◌, ◌≤◌, ◌⊎◌, sym, refl, ap, ◌∙◌, inl, inr, ⊎_elim, mod-eq_of_lt, arith}
-use mathlib.Core.Path.{subst⁻¹}
-use native.Mathlib.Nat.{mod-eq-sub-mod, div-eq_of_lt, div-eq_of_lt-le}
-use Rattle.std.proofs.lemmas.Bool.{lt-ltb, le-ltb}
-use Rattle.std.proofs.lemmas.Bool.Decides.{leb_tells}
+use Rattle.std.proofs.Common.{◌≡◌, ℕ, zero, suc, ◌+◌, ◌-◌, ◌%◌, ◌<◌, ◌≤◌, refl, ◌∙◌, inl, inr, ⊎_elim, mod-eq_of_lt, arith}
+use native.Mathlib.Nat.{mod-eq-sub-mod}
+use Rattle.std.proofs.lemmas.Bool.{lt-ltb, le-ltb, cases_lt}
 use Rattle.curve.specs.declared.Cell.{Cell}
 use Rattle.curve.specs.Hilbert.{cell, digit, inner, outer}
 use Rattle.curve.specs.Laws.{InSquare, Beside}
-
-pub below_or_not : (a b : ℕ) → (a < b) ⊎ (b ≤ a)
-below_or_not a b = ⊎_elim (λ h. inl h.1) (λ h. inr (omega arith)) (leb_tells (suc a) b)
 
 pub same_cell : (a b c d : ℕ) → a ≡ c → b ≡ d → cell a b ≡ cell c d
 same_cell a b c d p q = cc
@@ -42,9 +37,9 @@ module _ (P : ℕ → Cell → Type 0) (s : ℕ) (c : Cell) (w : InSquare (s + s
       → P (digit s c) (inner s c)
   by-quarter p0 p1 p2 p3 =
       ⊎_elim
-      (λ hx. ⊎_elim (λ hy. quarter_0 hx hy (p0 hx hy)) (λ hy. quarter_1 hx hy (p1 hx hy)) (below_or_not c.y s))
-      (λ hx. ⊎_elim (λ hy. quarter_3 hx hy (p3 hx hy)) (λ hy. quarter_2 hx hy (p2 hx hy)) (below_or_not c.y s))
-      (below_or_not c.x s)
+      (λ hx. ⊎_elim (λ hy. quarter_0 hx hy (p0 hx hy)) (λ hy. quarter_1 hx hy (p1 hx hy)) (cases_lt c.y s))
+      (λ hx. ⊎_elim (λ hy. quarter_3 hx hy (p3 hx hy)) (λ hy. quarter_2 hx hy (p2 hx hy)) (cases_lt c.y s))
+      (cases_lt c.x s)
 
 -- Going in: the digit is below 4, the inner cell lies in the quarter, and going out again leads back.
 pub record GoesIn (s : ℕ) (c : Cell) (d : ℕ) (i : Cell) : Type 0 where
@@ -124,61 +119,3 @@ beside_across s zero p h = inl (refl, inl (omega arith))
 beside_across s (suc zero) p h = inr (refl, inl (omega arith))
 beside_across s (suc (suc zero)) p h = inl (omega arith, inr (omega arith))
 beside_across s (suc (suc (suc n))) p h = absurd (omega arith)
-
--- The quotient by s of a number below 2s tells in which half it lies.
-pub halved : (s n : ℕ) → n < s + s → ((n < s) × (n / s ≡ 0)) ⊎ ((s ≤ n) × (n / s ≡ 1))
-halved s n h =
-    ⊎_elim
-    (λ l. inl (l, div-eq_of_lt l))
-    (λ l. inr (l, div-eq_of_lt-le s (omega arith) (omega arith)))
-    (below_or_not n s)
-
--- The digit as the code works it out.
-pub digit_low : (s : ℕ) (c : Cell) → InSquare (s + s) c → c.x < s → (c.y / s ≡ digit s c) × (c.y / s < 4)
-digit_low s c w hx =
-    ⊎_elim
-    (λ h. (h.1 ∙ sym (simp (lt-ltb c.x s hx, lt-ltb c.y s h.0)), omega (arith, h.1)))
-    (λ h. (h.1 ∙ sym (simp (lt-ltb c.x s hx, le-ltb c.y s h.0)), omega (arith, h.1)))
-    (halved s c.y w.y_below)
-
-pub digit_high : (s : ℕ) (c : Cell) → InSquare (s + s) c → s ≤ c.x → (3 - c.y / s ≡ digit s c) × (3 - c.y / s < 4)
-digit_high s c w hx =
-    ⊎_elim
-    (λ h. (ap (λ (q : ℕ). 3 - q) h.1 ∙ sym (simp (le-ltb c.x s hx, lt-ltb c.y s h.0)), omega arith))
-    (λ h. (ap (λ (q : ℕ). 3 - q) h.1 ∙ sym (simp (le-ltb c.x s hx, le-ltb c.y s h.0)), omega arith))
-    (halved s c.y w.y_below)
-
--- The inner cell as the code works it out, by the halves in which x and y lie.
-module _ (s x y : ℕ) (w : InSquare (s + s) (cell x y)) where
-  with_inside : (i : Cell) → i ≡ inner s (cell x y) → (i ≡ inner s (cell x y)) × InSquare s i
-  with_inside i e = (e, subst⁻¹ (InSquare s) e (goes_in s (cell x y) w).inside)
-
-  low_half : (n : ℕ) → n < s + s → n / s ≡ 0 → n < s
-  low_half n h e = ⊎_elim (λ p. p.0) (λ p. absurd (omega (arith, p.1))) (halved s n h)
-
-  high_half : (n : ℕ) → n < s + s → (n / s ≡ 0 → ⊥) → s ≤ n
-  high_half n h e = ⊎_elim (λ p. absurd (e p.1)) (λ p. p.0) (halved s n h)
-
-  pub inner_3 : y / s < x / s → y / s ≡ 0
-      → (cell (s - 1 - y % s) (s - 1 - x % s) ≡ inner s (cell x y)) × InSquare s (cell (s - 1 - y % s) (s - 1 - x % s))
-  inner_3 l e =
-      with_inside _
-      (sym (simp (le-ltb x s (high_half x w.x_below (λ z. omega arith)), lt-ltb y s (low_half y w.y_below e))))
-
-  pub inner_0 : x / s ≤ y / s → y / s ≡ 0
-      → (cell (y % s) (x % s) ≡ inner s (cell x y)) × InSquare s (cell (y % s) (x % s))
-  inner_0 l e =
-      with_inside _
-      (sym (simp (lt-ltb x s (low_half x w.x_below (omega arith)), lt-ltb y s (low_half y w.y_below e))))
-
-  pub inner_12 : (y / s ≡ 0 → ⊥) → (cell (x % s) (y % s) ≡ inner s (cell x y)) × InSquare s (cell (x % s) (y % s))
-  inner_12 e =
-      let hy = high_half y w.y_below e in
-      with_inside _
-      (⊎_elim
-      (λ (h : x < s). sym (simp (lt-ltb x s h, le-ltb y s hy)))
-      (λ (h : s ≤ x). sym (simp (le-ltb x s h, le-ltb y s hy)))
-      (below_or_not x s))
-
-  pub not_both_high : y / s < x / s → (y / s ≡ 0 → ⊥) → ⊥
-  not_both_high l e = ⊎_elim (λ p. omega (arith, p.1)) (λ p. e (omega (arith, p.1))) (halved s x w.x_below)
