@@ -7,7 +7,7 @@ use Rattle.buckets.specs.declared.Entry.{Entry}
 use Rattle.buckets.specs.Rows.{Sorted, AllAdmitted}
 use Rattle.tree.specs.declared.ranked_tree.RankedTree.{RankedTree}
 use Rattle.tree.specs.Tree.{Tree, leaf, node, onto, Joined}
-use Rattle.tree.specs.Whole.{OrderlyAt, Orderly}
+use Rattle.tree.specs.Whole.{OrderlyAt}
 use Rattle.tree.specs.View.{InOrder}
 
 module _ {P R : Type 0} (m : Model P R) where

@@ -115,6 +115,7 @@ pub(crate) fn rotate_left<P: PlaceKind>(
 }
 
 // `entry` over the trees at `left` and `right`, with rotations where one is more than a level higher.
+#[inline(always)]
 pub(crate) fn rebalance<P: PlaceKind>(
     nodes: &mut [Node<P, P::Region>],
     entry: Entry<P>,
