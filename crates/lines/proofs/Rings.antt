@@ -1,80 +1,54 @@
 -- A ring of slots: what is read first, and what a write behind the last message adds.
-use Rattle.std.proofs.Common.{◌≡◌, ℕ, zero, suc, ◌+◌, ◌-◌, ◌*◌, ◌<◌, ◌≤◌, List, [], ◌∷◌, ◌++◌, length, take, drop, sym, refl, ap, ◌∙◌, inl, inr, arith}
-use borrow.Rule.Slice.PartMut.{put_mid, post_of}
-use Rattle.std.proofs.lemmas.Slice.{take-put_mid_below, drop-put_mid}
-use Rattle.std.proofs.lemmas.List.{length-take-le, drop_at, take_at, drop-take}
+use Rattle.std.proofs.Common.{◌≡◌, ℕ, zero, suc, ◌+◌, ◌-◌, ◌%◌, ◌<◌, List, [], ◌∷◌, ◌++◌, length, get_or, sym, refl, ap, ◌∙◌, inl, inr, arith, mod-eq_of_lt}
+use Rattle.std.proofs.Math.ListN.{set, length-set}
+use Rattle.std.proofs.Math.Nat.{mod-add-mod}
+use native.Mathlib.Nat.{mod-eq-sub-mod}
+use Rattle.std.proofs.lemmas.Nat.{mod_below}
+use Rattle.std.proofs.lemmas.List.{get_or-set_same, get_or-set_other}
 use Rattle.std.proofs.lemmas.Bool.{cases_lt}
-use Rattle.lines.specs.Ring.{message_at, next_slot, slot_after, ring}
+use Rattle.lines.specs.Ring.{next_slot, ring}
 
-pub length_ring : (bytes : List ℕ) (n i k : ℕ) → length (ring bytes n i k) ≡ k
-length_ring bytes n i zero = refl
-length_ring bytes n i (suc k) = ap suc (length_ring bytes n (next_slot n i) k)
+pub length_ring : (slots : List (List ℕ)) (i k : ℕ) → length (ring slots i k) ≡ k
+length_ring slots i zero = refl
+length_ring slots i (suc k) = ap suc (length_ring slots (next_slot (length slots) i) k)
 
-pub ring_front : (bytes : List ℕ) (n i k : ℕ) → 0 < k
-    → ring bytes n i k ≡ message_at bytes i ∷ ring bytes n (next_slot n i) (k - 1)
-ring_front bytes n i zero h = absurd (omega arith)
-ring_front bytes n i (suc k) h =
-    let e : k ≡ suc k - 1 = omega arith in ap (λ (x : ℕ). message_at bytes i ∷ ring bytes n (next_slot n i) x) e
+pub ring_front : (slots : List (List ℕ)) (i k : ℕ) → 0 < k
+    → ring slots i k ≡ get_or slots i [] ∷ ring slots (next_slot (length slots) i) (k - 1)
+ring_front slots i zero h = absurd (omega arith)
+ring_front slots i (suc k) h =
+    let e : k ≡ suc k - 1 = omega arith in
+    ap (λ (x : ℕ). get_or slots i [] ∷ ring slots (next_slot (length slots) i) x) e
 
--- The slot that is written, and any other.
-written : (bytes m : List ℕ) (i : ℕ) → 64 * i + 64 ≤ length bytes → length m ≡ 64
-    → message_at (put_mid (64 * i) 64 bytes m) i ≡ m
-written bytes m i h e =
-    let le : 64 * i ≤ length bytes = omega arith in
-    let a : length (take (64 * i) bytes) ≡ 64 * i = length-take-le (64 * i) bytes le in
-    ap (take 64) (drop_at (take (64 * i) bytes) (m ++ post_of (64 * i) 64 bytes) (64 * i) a)
-    ∙ take_at m (post_of (64 * i) 64 bytes) 64 e
-
-not_written : (bytes m : List ℕ) (i j : ℕ) → 64 * i + 64 ≤ length bytes → length m ≡ 64 → (i ≡ j → ⊥)
-    → message_at (put_mid (64 * i) 64 bytes m) j ≡ message_at bytes j
-not_written bytes m i j h e ne =
-    let le : 64 * i ≤ length bytes = omega arith in
-    let either = cases_lt j i in
+after_elsewhere : (n i k : ℕ) → i < n → suc k < n → (i + suc k) % n ≡ i → ⊥
+after_elsewhere n i k h hk e =
+    let either = cases_lt (i + suc k) n in
     elim either [
-      | inl l ↦
-          (let b : 64 * j + 64 ≤ 64 * i = omega arith in
-          sym (drop-take (64 * j) 64 (put_mid (64 * i) 64 bytes m))
-          ∙ (ap (drop (64 * j)) (take-put_mid_below (64 * i) 64 bytes m (64 * j + 64) b le) ∙ drop-take (64 * j) 64 bytes))
+      | inl l ↦ (let f : (i + suc k) % n ≡ i + suc k = mod-eq_of_lt l in omega arith)
       | inr l ↦
-          (let b : 64 * i + 64 ≤ 64 * j = omega arith in
-          ap (take 64) (drop-put_mid (64 * i) 64 bytes m (64 * j) b le e))
+          (let b : i + suc k - n < n = omega arith in
+          let f : (i + suc k) % n ≡ i + suc k - n = mod-eq-sub-mod l ∙ mod-eq_of_lt b in omega arith)
     ]
 
-after_next : (n i k : ℕ) → i < n → k + 1 < n → slot_after n i (k + 1) ≡ slot_after n (next_slot n i) k
-after_next n i k hi hk = grind arith
-
-next_within : (n i : ℕ) → i < n → next_slot n i < n
-next_within n i h = grind arith
-
-after_elsewhere : (n i k : ℕ) → i < n → k + 1 < n → slot_after n i (k + 1) ≡ i → ⊥
-after_elsewhere n i k h hk e = grind arith
-
-after_none : (n i : ℕ) → i < n → slot_after n i 0 ≡ i
-after_none n i h = grind arith
-
-after_within : (n i k : ℕ) → i < n → k < n → slot_after n i k < n
-after_within n i k h hk = grind arith
-
-push_at : (bytes m : List ℕ) (n i k p : ℕ) → i < n → k < n → p ≡ slot_after n i k → 64 * n ≤ length bytes → length m ≡ 64
-    → ring (put_mid (64 * p) 64 bytes m) n i (suc k) ≡ ring bytes n i k ++ (m ∷ [])
-push_at bytes m n i zero p hi hk hp hb e =
-    let q : p ≡ i = hp ∙ after_none n i hi in
-    let b : 64 * i + 64 ≤ length bytes = omega arith in
-    rw q (ap (λ (x : List ℕ). x ∷ []) (written bytes m i b e))
-push_at bytes m n i (suc k) p hi hk hp hb e =
-    let s : suc k ≡ k + 1 = omega arith in
-    let hk1 : k + 1 < n = omega arith in
+push_at : (slots : List (List ℕ)) (m : List ℕ) (i k p : ℕ) → i < length slots → k < length slots → p ≡ (i + k) % length slots
+    → ring (set slots p m) i (suc k) ≡ ring slots i k ++ (m ∷ [])
+push_at slots m i zero p hi hk hp =
+    let z : i + 0 ≡ i = omega arith in
+    let q : p ≡ i = hp ∙ ap (λ (x : ℕ). x % length slots) z ∙ mod-eq_of_lt hi in
+    rw q (ap (λ (x : List ℕ). x ∷ []) (get_or-set_same slots i m [] hi))
+push_at slots m i (suc k) p hi hk hp =
+    let n = length slots in
+    let j = next_slot n i in
     let hk0 : k < n = omega arith in
-    let hp1 : p ≡ slot_after n i (k + 1) = hp ∙ ap (slot_after n i) s in
-    let lt : slot_after n i (k + 1) < n = after_within n i (k + 1) hi hk1 in
-    let b : 64 * p + 64 ≤ length bytes = omega arith in
-    let ne : p ≡ i → ⊥ = (λ q. after_elsewhere n i k hi hk1 (sym hp1 ∙ q)) in
-    let rest = push_at bytes m n (next_slot n i) k p (next_within n i hi) hk0 (hp1 ∙ after_next n i k hi hk1) hb e in
-    let head = not_written bytes m p i b e ne in
+    let s : i + suc k ≡ i + 1 + k = omega arith in
+    let hj : j < n = mod_below (i + 1) n (omega arith) in
+    let e : p ≡ (j + k) % n = hp ∙ ap (λ (x : ℕ). x % n) s ∙ sym (mod-add-mod (i + 1) n k) in
+    let head = get_or-set_other slots p i m [] (λ q. after_elsewhere n i k hi hk (sym hp ∙ sym q)) in
+    let rest = push_at slots m j k p hj hk0 e in
+    let same = ap (λ (x : ℕ). ring (set slots p m) (next_slot x i) (suc k)) (length-set slots p m) in
     cc
 
-pub ring_push : (bytes m : List ℕ) (n i k : ℕ) → i < n → k < n → 64 * n ≤ length bytes → length m ≡ 64
-    → ring (put_mid (64 * slot_after n i k) 64 bytes m) n i (k + 1) ≡ ring bytes n i k ++ (m ∷ [])
-ring_push bytes m n i k hi hk hb e =
+pub ring_push : (slots : List (List ℕ)) (m : List ℕ) (i k : ℕ) → i < length slots → k < length slots
+    → ring (set slots ((i + k) % length slots) m) i (k + 1) ≡ ring slots i k ++ (m ∷ [])
+ring_push slots m i k hi hk =
     let s : k + 1 ≡ suc k = omega arith in
-    ap (ring (put_mid (64 * slot_after n i k) 64 bytes m) n i) s ∙ push_at bytes m n i k (slot_after n i k) hi hk refl hb e
+    ap (ring (set slots ((i + k) % length slots) m) i) s ∙ push_at slots m i k ((i + k) % length slots) hi hk refl

@@ -5,7 +5,6 @@ mod fault;
 mod line;
 mod messages;
 mod radio_cell;
-mod ring;
 mod spool;
 
 pub use fault::{LineFault, MessageFault};

@@ -8,8 +8,7 @@ use crate::line::Line;
 /// A line of capacity 1.
 #[derive(Drop)]
 pub struct RadioCell {
-    full: bool,
-    bytes: [u8; 64],
+    message: Option<[u8; 64]>,
 }
 
 impl RadioCell {
@@ -17,10 +16,7 @@ impl RadioCell {
     pub fn new() -> RadioCell
         ensures { cell_waiting result ≡ [] }
     {
-        RadioCell {
-            full: false,
-            bytes: [0; 64],
-        }
+        RadioCell { message: None }
     }
 }
 
@@ -30,30 +26,23 @@ impl Line for RadioCell {
     ghost capacity = { λ _. 1 };
 
     fn spare(&self) -> usize {
-        if self.full { 0 } else { 1 }
+        if self.message.is_none() { 1 } else { 0 }
     }
 
     fn send(&mut self, message: &[u8]) -> Result<(), LineFault> {
-        if message.len() != 64 {
-            return Err(LineFault::Size);
-        }
-        if self.full {
+        let message = message.as_array::<64>().ok_or(LineFault::Size)?;
+        if self.message.is_some() {
             return Err(LineFault::Full);
         }
-        self.bytes.copy_from_slice(message);
-        self.full = true;
+        self.message = Some(*message);
         Ok(())
     }
 
     fn take(&mut self, space: &mut [u8]) -> Result<(), LineFault> {
-        if space.len() != 64 {
+        let Some(space) = space.as_mut_array::<64>() else {
             return Err(LineFault::Size);
-        }
-        if !self.full {
-            return Err(LineFault::Empty);
-        }
-        space.copy_from_slice(&self.bytes);
-        self.full = false;
+        };
+        *space = self.message.take().ok_or(LineFault::Empty)?;
         Ok(())
     }
 }

@@ -3,6 +3,5 @@ use Rattle.lines.proofs.messages.compose.Goals as goal
 
 pub returns : goal.returns
 returns g c =
-    composed g.P.PlaceKind.model c.args.serial c.args.region c.args.text.now c.args.bytes
-    c.header-head.result c.padded_text.result c.assemble.result c.requires.fits.0 c.requires.fits.1
+    composed g.P.PlaceKind.model _ _ _ _ _ _ _ c.requires c.in_ok-bytes.ensures
     (rw c.width.ensures at c.header-head.ensures) c.padded_text.ensures c.assemble.ensures
