@@ -1,7 +1,7 @@
 //! Reading a slot field by field, and writing it whole.
 ghost use Rattle.std.specs.Prelude.{◌≡◌, ◌<◌, min, length, if◌then◌else◌, Some, slice_set};
 ghost use Rattle.tree.specs.declared.node.Node.{Node};
-ghost use Rattle.tree.specs.Slots.{at, height_of, count_of, left_child, right_child, held_place, held_join, joined_over, made, idle};
+ghost use Rattle.tree.specs.Slots.{at, height_of, count_of, left_child, right_child, held_place, joined_over, made, idle};
 ghost use Rattle.tree.specs.Tree.{Tree, linked};
 ghost use Rattle.tree.specs.Contracted.{Room, Two, TwoAt, Done};
 
@@ -73,14 +73,6 @@ pub(crate) fn place_at<P: PlaceKind>(nodes: &[Node<P, P::Region>], slot: u16) ->
     nodes[slot as usize].place
 }
 
-// The join of the regions at and below a node.
-pub(crate) fn join_at<P: PlaceKind>(nodes: &[Node<P, P::Region>], slot: u16) -> P::Region
-    requires { (0 < slot) × (slot < length nodes.now) }
-    ensures { held_join (at nodes.now slot) ≡ Some result }
-{
-    nodes[slot as usize].join
-}
-
 // What is given of the node at a slot.
 pub(crate) fn branch_at<P: PlaceKind>(nodes: &[Node<P, P::Region>], slot: u16) -> Branch<P>
     requires { (0 < slot) × (slot < length nodes.now) }
@@ -138,15 +130,13 @@ pub(crate) fn clear<P: PlaceKind>(nodes: &mut [Node<P, P::Region>], slot: u16)
     requires { (0 < slot) × (slot < length nodes.old) }
     ensures { (x : Node P P.Region) → at nodes.old slot ≡ Some x → nodes.new ≡ slice_set nodes.old slot (idle x) }
 {
-    let place = place_at(nodes, slot);
-    let join = join_at(nodes, slot);
+    let node = nodes[slot as usize];
     nodes[slot as usize] = Node {
-        place,
-        join,
         left: 0,
         right: 0,
         count: 0,
         height: 0,
+        ..node
     };
 }
 
