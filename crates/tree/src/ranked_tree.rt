@@ -1,11 +1,18 @@
-//! The struct has a file of its own: its ghost field may not depend on what cites it.
-ghost use Rattle.std.specs.Prelude.{◌≡◌, true};
-ghost use Rattle.tree.specs.Whole.{shaped};
+//! The tree over its slots, as the register uses it.
+ghost use Rattle.std.specs.Prelude.{◌≡◌, true, ℕ, ◌<◌, ◌≤◌, List, [], ◌∷◌, length, if◌then◌else◌, Some, None, nat_eq};
+ghost use Rattle.tree.specs.Whole.{shaped, capacity};
+ghost use Rattle.std.specs.List.{slice_get};
+ghost use Rattle.kinds.specs.Rules.{Admitted};
+ghost use Rattle.buckets.specs.Rows.{entry, inserted, rank_of, row};
+ghost use Rattle.buckets.specs.Regions.{members, region_of};
+ghost use Rattle.tree.specs.Rows.{without, find, often};
 
+use crate::changes::{insert, take_out};
 use crate::node::Node;
+use crate::slots::{clear, count_at, height_at, limit, place_at};
+use crate::walks::{between, rank};
+use buckets::{Ends, Entry, ahead_laws, row_laws};
 use kinds::PlaceKind;
-
-mod calls;
 
 /// A balanced tree of entries over lent slots: its root, and the slots, in which each slot in use stands once in the tree.
 #[derive(Drop)]
@@ -13,4 +20,126 @@ pub struct RankedTree<'a, P: PlaceKind> {
     pub slots: &'a mut [Node<P, P::Region>],
     pub root: u16,
     pub ghost shape: { shaped slots.now root ≡ true },
+}
+
+impl<'a, P: PlaceKind> RankedTree<'a, P> {
+    ghost use Rattle.tree.specs.View.{capacity_of, place_of, row_of, height_of, slot_count, slot, InOrder};
+
+    /// A tree with no entry over the slots: slots 1 to the capacity are marked as not in use.
+    pub fn new(slots: &'a mut [Node<P, P::Region>]) -> RankedTree<'a, P>
+        ensures slots { slot_count result ≡ length slots.old }
+        ensures view { (j : ℕ) → place_of result j ≡ None }
+        ensures others { (j : ℕ) → (0 < j → capacity slots.old < j) → slot result j ≡ slice_get slots.old j }
+        ensures order { InOrder P.PlaceKind.model result }
+        ensures empty { row_of result ≡ [] }
+    {
+        let end = limit(slots);
+        for slot in 1..end {
+            clear(slots, slot);
+        }
+        RankedTree { slots, root: 0 }
+    }
+
+    /// The highest set number that the slots have room for.
+    pub fn capacity(&self) -> u16
+        ensures { result ≡ capacity_of self.now }
+    {
+        limit(self.slots).saturating_sub(1)
+    }
+
+    /// Where the set `set` is present, if it is.
+    pub fn place_of(&self, set: u16) -> Option<P>
+        ensures { result ≡ place_of self.now set }
+    {
+        if set >= limit(self.slots) || count_at(self.slots, set) == 0 {
+            return None;
+        }
+        Some(place_at(self.slots, set))
+    }
+
+    /// Enters a set that is not present at a place.
+    pub fn enter(&mut self, entry: Entry<P>)
+        requires room { (0 < entry.set) × (entry.set ≤ capacity_of self.old) }
+        requires absent { place_of self.old entry.set ≡ None }
+        ensures slots { slot_count self.new ≡ slot_count self.old }
+        ensures view { (j : ℕ) → place_of self.new j ≡ (if nat_eq j entry.set then Some entry.place else place_of self.old j) }
+        ensures others { (j : ℕ) → place_of self.new j ≡ None → slot self.new j ≡ slot self.old j }
+        ensures order { InOrder P.PlaceKind.model self.old → Admitted P.PlaceKind.model entry.place → InOrder P.PlaceKind.model self.new × (row_of self.new ≡ inserted P.PlaceKind.model entry (row_of self.old)) }
+    {
+        ahead_laws::<P>();
+        self.root = insert(self.slots, self.root, entry);
+    }
+
+    /// Takes the entry of a set that is present out.
+    pub fn leave(&mut self, entry: Entry<P>)
+        requires there { place_of self.old entry.set ≡ Some entry.place }
+        ensures slots { slot_count self.new ≡ slot_count self.old }
+        ensures view { InOrder P.PlaceKind.model self.old → (j : ℕ) → place_of self.new j ≡ (if nat_eq j entry.set then None else place_of self.old j) }
+        ensures others { (j : ℕ) → place_of self.old j ≡ None → slot self.new j ≡ slot self.old j }
+        ensures order { InOrder P.PlaceKind.model self.old → InOrder P.PlaceKind.model self.new × (row_of self.new ≡ without entry.set (row_of self.old)) }
+    {
+        self.root = take_out(self.slots, self.root, entry);
+    }
+
+    /// Moves a set that is present to a place.
+    pub fn relocate(&mut self, from: Entry<P>, place: P)
+        requires there { place_of self.old from.set ≡ Some from.place }
+        ensures slots { slot_count self.new ≡ slot_count self.old }
+        ensures view { InOrder P.PlaceKind.model self.old → (j : ℕ) → place_of self.new j ≡ (if nat_eq j from.set then Some place else place_of self.old j) }
+        ensures others { (j : ℕ) → place_of self.old j ≡ None → slot self.new j ≡ slot self.old j }
+        ensures order { InOrder P.PlaceKind.model self.old → Admitted P.PlaceKind.model place → InOrder P.PlaceKind.model self.new × (row_of self.new ≡ inserted P.PlaceKind.model (entry from.set place) (without from.set (row_of self.old))) }
+    {
+        self.leave(from);
+        if self.place_of(from.set).is_none() {
+            self.enter(Entry { place, ..from });
+        }
+    }
+
+    /// How many sets are present.
+    pub fn count(&self) -> u16
+        ensures many { result ≡ length (row_of self.now) }
+        ensures most { result ≤ 4095 }
+        ensures row { (j : ℕ) → (find j (row_of self.now) ≡ place_of self.now j) × (often j (row_of self.now) ≤ 1) }
+    {
+        if self.root == 0 {
+            return 0;
+        }
+        count_at(self.slots, self.root)
+    }
+
+    /// How many sets stand before one that is present.
+    pub fn rank_of(&self, entry: Entry<P>) -> u16
+        requires there { place_of self.now entry.set ≡ Some entry.place }
+        ensures low { result ≤ length (row_of self.now) }
+        ensures rank { InOrder P.PlaceKind.model self.now → result ≡ rank_of entry.set (row_of self.now) }
+    {
+        ahead_laws::<P>();
+        rank(self.slots, self.root, entry)
+    }
+
+    /// The join of the regions of the entries from one rank to another.
+    pub fn covers(&self, ends: Ends) -> P::Region
+        requires range { (ends.first ≤ ends.last) × (ends.last < length (row_of self.now)) }
+        ensures { InOrder P.PlaceKind.model self.now → (e : Entry P) (es : List (Entry P)) → members ends (row_of self.now) ≡ e ∷ es → result ≡ region_of P.PlaceKind.model e es }
+    {
+        between(self.slots, self.root, ends.first, ends.last + 1)
+    }
+
+    /// How high the tree stands: at most 16 levels.
+    pub fn height(&self) -> u8
+        ensures value { result ≡ height_of self.now }
+        ensures most { result ≤ 16 }
+    {
+        if self.root == 0 {
+            return 0;
+        }
+        height_at(self.slots, self.root)
+    }
+
+    /// The tree's row is the row of the present sets, where the tree is in order.
+    pub fn one_row(&self)
+        ensures { InOrder P.PlaceKind.model self.now → row_of self.now ≡ row P.PlaceKind.model (place_of self.now) (capacity_of self.now) }
+    {
+        row_laws::<P>();
+    }
 }
