@@ -1,4 +1,5 @@
-//! One slot of the tree.
+//! One slot of the tree, and what is worked on of it.
+use buckets::Entry;
 
 /// A set's place, its children, and the join, count and height of its tree. A count of 0 marks a slot not in use.
 #[derive(Clone, Copy)]
@@ -17,4 +18,14 @@ pub(crate) struct Branch<P> {
     pub(crate) place: P,
     pub(crate) left: u16,
     pub(crate) right: u16,
+}
+
+// Three trees with two entries between them: the trees at `first`, `second` and `third`, 0 where there is none.
+#[derive(Clone, Copy)]
+pub(crate) struct Apart<P> {
+    pub(crate) first: u16,
+    pub(crate) low: Entry<P>,
+    pub(crate) second: u16,
+    pub(crate) high: Entry<P>,
+    pub(crate) third: u16,
 }

@@ -4,64 +4,43 @@ ghost use Rattle.tree.specs.Tree.{Tree, linked};
 ghost use Rattle.tree.specs.Shapes.{rotated_twice, rotated_right, rotated_left, evened};
 ghost use Rattle.tree.specs.Contracted.{Three, ThreeAt, Even, EvenAt, Done};
 
-use crate::node::Node;
+use crate::node::{Apart, Node};
 use crate::slots::{branch_at, height_at, plant};
 use buckets::Entry;
 use kinds::PlaceKind;
 
-// `s` over the tree at `a` and over `k`, which is over the trees at `b` and `c`.
-pub(crate) fn rotate_once_right<P: PlaceKind>(
-    nodes: &mut [Node<P, P::Region>],
-    s: Entry<P>,
-    k: Entry<P>,
-    a: u16,
-    b: u16,
-    c: u16,
-)
-    requires { Three nodes.old s.set k.set a b c }
-    ensures { (ta tb tc : Tree P P.Region) → ThreeAt nodes.old s.set k.set a b c ta tb tc → Done nodes.old nodes.new s.set (linked P.PlaceKind.model ta s.set s.place (linked P.PlaceKind.model tb k.set k.place tc)) }
+// The low entry over the first tree and over the high entry, which is over the other two.
+pub(crate) fn rotate_once_right<P: PlaceKind>(nodes: &mut [Node<P, P::Region>], apart: Apart<P>)
+    requires { Three nodes.old apart.low.set apart.high.set apart.first apart.second apart.third }
+    ensures { (a b c : Tree P P.Region) → ThreeAt nodes.old apart.low.set apart.high.set apart.first apart.second apart.third a b c → Done nodes.old nodes.new apart.low.set (linked P.PlaceKind.model a apart.low.set apart.low.place (linked P.PlaceKind.model b apart.high.set apart.high.place c)) }
 {
-    plant(nodes, k, b, c);
-    plant(nodes, s, a, k.set);
+    plant(nodes, apart.high, apart.second, apart.third);
+    plant(nodes, apart.low, apart.first, apart.high.set);
 }
 
-// `k` over `s`, which is over the trees at `a` and `b`, and over the tree at `c`.
-pub(crate) fn rotate_once_left<P: PlaceKind>(
-    nodes: &mut [Node<P, P::Region>],
-    s: Entry<P>,
-    k: Entry<P>,
-    a: u16,
-    b: u16,
-    c: u16,
-)
-    requires { Three nodes.old s.set k.set a b c }
-    ensures { (ta tb tc : Tree P P.Region) → ThreeAt nodes.old s.set k.set a b c ta tb tc → Done nodes.old nodes.new k.set (linked P.PlaceKind.model (linked P.PlaceKind.model ta s.set s.place tb) k.set k.place tc) }
+// The high entry over the low entry, which is over the first two trees, and over the third.
+pub(crate) fn rotate_once_left<P: PlaceKind>(nodes: &mut [Node<P, P::Region>], apart: Apart<P>)
+    requires { Three nodes.old apart.low.set apart.high.set apart.first apart.second apart.third }
+    ensures { (a b c : Tree P P.Region) → ThreeAt nodes.old apart.low.set apart.high.set apart.first apart.second apart.third a b c → Done nodes.old nodes.new apart.high.set (linked P.PlaceKind.model (linked P.PlaceKind.model a apart.low.set apart.low.place b) apart.high.set apart.high.place c) }
 {
-    plant(nodes, s, a, b);
-    plant(nodes, k, s.set, c);
+    plant(nodes, apart.low, apart.first, apart.second);
+    plant(nodes, apart.high, apart.low.set, apart.third);
 }
 
-// The root `b` of the middle tree over `s` and `k`, which share its two trees.
-pub(crate) fn rotate_twice<P: PlaceKind>(
-    nodes: &mut [Node<P, P::Region>],
-    s: Entry<P>,
-    k: Entry<P>,
-    a: u16,
-    b: u16,
-    c: u16,
-)
-    requires three { Three nodes.old s.set k.set a b c }
-    requires some { 0 < b }
-    ensures { (ta tb tc : Tree P P.Region) → ThreeAt nodes.old s.set k.set a b c ta tb tc → Done nodes.old nodes.new b (rotated_twice P.PlaceKind.model ta s.set s.place tb k.set k.place tc) }
+// The root of the second tree over both entries, which share its two trees.
+pub(crate) fn rotate_twice<P: PlaceKind>(nodes: &mut [Node<P, P::Region>], apart: Apart<P>)
+    requires three { Three nodes.old apart.low.set apart.high.set apart.first apart.second apart.third }
+    requires some { 0 < apart.second }
+    ensures { (a b c : Tree P P.Region) → ThreeAt nodes.old apart.low.set apart.high.set apart.first apart.second apart.third a b c → Done nodes.old nodes.new apart.second (rotated_twice P.PlaceKind.model a apart.low.set apart.low.place b apart.high.set apart.high.place c) }
 {
-    let middle = branch_at(nodes, b);
-    plant(nodes, s, a, middle.left);
-    plant(nodes, k, middle.right, c);
+    let middle = branch_at(nodes, apart.second);
     let top = Entry {
-        set: b,
+        set: apart.second,
         place: middle.place,
     };
-    plant(nodes, top, s.set, k.set);
+    plant(nodes, apart.low, apart.first, middle.left);
+    plant(nodes, apart.high, middle.right, apart.third);
+    plant(nodes, top, apart.low.set, apart.high.set);
 }
 
 // `entry` over the trees at `left` and `right`, of which the left one is too high.
@@ -76,15 +55,21 @@ pub(crate) fn rotate_right<P: PlaceKind>(
     ensures { (l r : Tree P P.Region) → EvenAt nodes.old entry.set left right l r → Done nodes.old nodes.new result (rotated_right P.PlaceKind.model l entry.set entry.place r) }
 {
     let below = branch_at(nodes, left);
-    let low = Entry {
-        set: left,
-        place: below.place,
+    let apart = Apart {
+        first: below.left,
+        low: Entry {
+            set: left,
+            place: below.place,
+        },
+        second: below.right,
+        high: entry,
+        third: right,
     };
     if height_at(nodes, below.left) < height_at(nodes, below.right) {
-        rotate_twice(nodes, low, entry, below.left, below.right, right);
+        rotate_twice(nodes, apart);
         below.right
     } else {
-        rotate_once_right(nodes, low, entry, below.left, below.right, right);
+        rotate_once_right(nodes, apart);
         left
     }
 }
@@ -101,15 +86,21 @@ pub(crate) fn rotate_left<P: PlaceKind>(
     ensures { (l r : Tree P P.Region) → EvenAt nodes.old entry.set left right l r → Done nodes.old nodes.new result (rotated_left P.PlaceKind.model l entry.set entry.place r) }
 {
     let below = branch_at(nodes, right);
-    let high = Entry {
-        set: right,
-        place: below.place,
+    let apart = Apart {
+        first: left,
+        low: entry,
+        second: below.left,
+        high: Entry {
+            set: right,
+            place: below.place,
+        },
+        third: below.right,
     };
     if height_at(nodes, below.right) < height_at(nodes, below.left) {
-        rotate_twice(nodes, entry, high, left, below.left, below.right);
+        rotate_twice(nodes, apart);
         below.left
     } else {
-        rotate_once_left(nodes, entry, high, left, below.left, below.right);
+        rotate_once_left(nodes, apart);
         right
     }
 }

@@ -9,11 +9,11 @@ pub plant-requires-2 : goal.plant-requires-2
 plant-requires-2 g c =
     let m = g.P.PlaceKind.model in
     let y = c.requires.3 in
-    (_, c.requires.2, left_second m y c.args.s.place _ (omega arith) (c.plant.ensures _ _ (left_first m y)))
+    (_, c.requires.2, left_second m y c.args.apart.low.place _ (omega arith) (c.plant.ensures _ _ (left_first m y)))
 
 pub returns : goal.returns
 returns g c =
     let m = g.P.PlaceKind.model in
     λ ta tb tc y.
     let d = c.plant.ensures _ _ (left_first m y) in
-    done_done m d (c.plant-2.ensures _ _ (left_second m y c.args.s.place _ (omega arith) d)) (λ j z. omega arith)
+    done_done m d (c.plant-2.ensures _ _ (left_second m y c.args.apart.low.place _ (omega arith) d)) (λ j z. omega arith)

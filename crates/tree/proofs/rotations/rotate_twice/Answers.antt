@@ -36,7 +36,7 @@ plant-requires-2 g c =
       _,
       _,
       both_second m c.branch_at-middle.result.place o.v c.branch_at-middle.result.left c.branch_at-middle.result.right z
-          o.left_is o.right_is c.args.s.place _ (omega arith) f,
+          o.left_is o.right_is c.args.apart.low.place _ (omega arith) f,
     )
 
 pub plant-requires-3 : goal.plant-requires-3
@@ -51,11 +51,11 @@ plant-requires-3 g c =
     o.left_is o.right_is) in
     let h = c.plant-2.ensures _ _
     (both_second m c.branch_at-middle.result.place o.v c.branch_at-middle.result.left c.branch_at-middle.result.right z
-    o.left_is o.right_is c.args.s.place _ (omega arith) f) in (
+    o.left_is o.right_is c.args.apart.low.place _ (omega arith) f) in (
       _,
       _,
       both_third m c.branch_at-middle.result.place o.v c.branch_at-middle.result.left c.branch_at-middle.result.right z
-          o.left_is o.right_is c.args.s.place c.args.k.place _ _ (omega arith) f h,
+          o.left_is o.right_is c.args.apart.low.place c.args.apart.high.place _ _ (omega arith) f h,
     )
 
 pub returns : goal.returns
@@ -70,10 +70,10 @@ returns g c =
     o.left_is o.right_is) in
     let h = c.plant-2.ensures _ _
     (both_second m c.branch_at-middle.result.place o.v c.branch_at-middle.result.left c.branch_at-middle.result.right z
-    o.left_is o.right_is c.args.s.place _ (omega arith) f) in
+    o.left_is o.right_is c.args.apart.low.place _ (omega arith) f) in
     let i = c.plant-3.ensures _ _
     (both_third m c.branch_at-middle.result.place o.v c.branch_at-middle.result.left c.branch_at-middle.result.right z
-    o.left_is o.right_is c.args.s.place c.args.k.place _ _ (omega arith) f h) in
-    subst (λ t. Done c.args.nodes.now c.plant-3.new.nodes c.args.b
-    (rotated_twice m ta c.args.s.set c.args.s.place t c.args.k.set c.args.k.place tc)) (sym o.is)
+    o.left_is o.right_is c.args.apart.low.place c.args.apart.high.place _ _ (omega arith) f h) in
+    subst (λ t. Done c.args.nodes.now c.plant-3.new.nodes c.args.apart.second
+    (rotated_twice m ta c.args.apart.low.set c.args.apart.low.place t c.args.apart.high.set c.args.apart.high.place tc)) (sym o.is)
     (done_done m f (done_done m h i (λ j e. omega arith)) (λ j e. omega arith))
