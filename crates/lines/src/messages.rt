@@ -1,6 +1,6 @@
 //! The message of a query.
 ghost use Rattle.std.specs.Prelude.{◌≡◌, ◌≤◌, true, ◌++◌, length};
-ghost use Rattle.lines.specs.Message.{header as header_of, text_bytes, message as message_of, text_fits, MessageLaws};
+ghost use Rattle.lines.specs.Message.{header as header_of, text_bytes, text_fits, MessageLaws};
 ghost use Rattle.lines.specs.MessageFaults.{text_checked, message_answer};
 
 use crate::fault::MessageFault;
@@ -51,6 +51,7 @@ fn assemble(header: [u8; 10], region: [u8; 24], text: [u8; 30]) -> [u8; 64]
 }
 
 // The message with a text that fits, where the kind's regions do.
+#[tactic(auto, unfolding(crate::specs::Message::message))]
 fn compose<P: PlaceKind>(
     serial: u32,
     region: P::Region,
