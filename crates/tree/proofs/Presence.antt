@@ -2,7 +2,6 @@
 use Rattle.std.proofs.Common.{◌≡◌, ℕ, ◌<◌, ◌≤◌, min, Bool, true, false, cond, ◌&&◌, eqb, ltb, List, [], ◌∷◌, ◌++◌, length, Some, None, Option, sym, refl, ap, ◌∙◌, subst, arith}
 use native.Mathlib.Decide.{ℕ_discrete, dec_lt}
 use Rattle.std.proofs.lemmas.Bool.Decides.{nat_tests}
-use Rattle.std.specs.List.{slice_get}
 use Rattle.kinds.specs.Rules.{Model}
 use Rattle.tree.specs.declared.node.Node.{Node}
 use Rattle.tree.specs.Slots.{at, count_of, held_place}
@@ -12,14 +11,10 @@ use Rattle.tree.specs.Rows.{often, find}
 use Rattle.buckets.specs.Rows.{entry, In, later}
 use Rattle.buckets.specs.declared.Entry.{Entry}
 use Rattle.tree.specs.Whole.{capacity, in_use, place_in, mark, tree_in, row_in, ShapeAt}
-use Rattle.tree.proofs.Held.{at_nth}
 use Rattle.tree.proofs.Balance.{low}
 use Rattle.tree.proofs.Order.{in_first, often_row}
 use Rattle.tree.proofs.Writes.{one_other}
 use Rattle.tree.proofs.Shape.{count_past, mark_one, shape_few}
-
-eqb_away : (j s : ℕ) → (j ≡ s → ⊥) → eqb j s ≡ false
-eqb_away j s ne = grind (arith, nat_tests)
 
 module _ {X : Type 0} where
   abbrev pub alt : Option X → Option X → Option X
@@ -160,32 +155,6 @@ module _ {P R : Type 0} where
       go false is w = let z : ◌≡◌ {A = ℕ} 0 1 = cc in absurd (omega arith)
 
 module _ {P R : Type 0} where
-  -- A set that is nowhere has no count.
-  pub gone_count : (ns : List (Node P R)) (s : ℕ) (o : Option P) → place_in ns s ≡ cond (eqb s s) None o → s < 4096
-      → 0 < count_of (at ns s) → ⊥
-  gone_count ns s w h low pos = go (at ns s) refl
-    where
-      used : in_use ns s ≡ true
-      used = grind (arith, nat_tests)
-
-      test : eqb s s ≡ true
-      test = grind (arith, nat_tests)
-
-      none : place_in ns s ≡ None
-      none = h ∙ ap (λ b. cond b None w) test
-
-      go : (o : Option (Node P R)) → at ns s ≡ o → ⊥
-      go None is = let z : count_of (at ns s) ≡ 0 = ap count_of is in omega arith
-      go (Some x) is =
-          let a : place_in ns s ≡ Some x.place = ap (λ b. cond b (held_place (at ns s)) None) used ∙ ap held_place is in
-          let z : ◌≡◌ {A = ℕ} 0 1 = cc (sym none ∙ a) in omega arith
-
-module _ {X : Type 0} where
-  pub cond_cond : (b : Bool) (x y z : X) → cond b x (cond b y z) ≡ cond b x z
-  cond_cond true x y z = refl
-  cond_cond false x y z = refl
-
-module _ {P R : Type 0} where
   pub row_says : (ns : List (Node P R)) (root : ℕ) → ShapeAt ns root (tree_in ns root) → (j : ℕ)
       → (find j (row_in ns root) ≡ place_in ns j) × (often j (row_in ns root) ≤ 1)
   row_says ns root y j = (
@@ -206,16 +175,6 @@ module _ {P R : Type 0} where
       go (Some x) is true u =
           let a : place_in ns j ≡ Some x.place = ap (λ b. cond b (held_place (at ns j)) None) u ∙ ap held_place is in
           let z : ◌≡◌ {A = ℕ} 0 1 = cc (sym h ∙ a) in absurd (omega arith)
-
-  -- A set that was not present is not present after another one moved.
-  pub still_absent : (ns ms ks : List (Node P R)) (s j : ℕ) (p q : P) → place_in ns s ≡ Some q → place_in ns j ≡ None
-      → slice_get ms j ≡ slice_get ns j → place_in ks j ≡ cond (eqb j s) (Some p) (place_in ms j) → place_in ks j ≡ None
-  still_absent ns ms ks s j p q there none same view =
-      let ne : eqb j s ≡ false = eqb_away j s
-      (λ e. let z : ◌≡◌ {A = ℕ} 0 1 = cc (sym none ∙ ap (place_in ns) e ∙ there) in omega arith) in
-      let a : place_in ms j ≡ None = ap (λ o. cond (ltb j 4096 && ltb 0 (count_of o)) (held_place o) None)
-      (at_nth ns ms j same) ∙ none in
-      view ∙ ap (λ b. cond b (Some p) (place_in ms j)) ne ∙ a
 
   -- A slot whose count is 0 holds no set.
   pub uncounted : (ns : List (Node P R)) (j : ℕ) → count_of (at ns j) ≡ 0 → place_in ns j ≡ None

@@ -1,6 +1,7 @@
 -- What the functions on slots ask and promise.
 use Rattle.std.specs.Prelude.{◌≡◌, ℕ, ◌+◌, ◌<◌, ◌≤◌, cond, List, length, ◌==◌}
 use Rattle.std.specs.List.{slice_get}
+use Rattle.tree.specs.declared.node.Apart.{Apart}
 use Rattle.tree.specs.declared.node.Node.{Node}
 use Rattle.tree.specs.Slots.{at, height_of, count_of}
 use Rattle.tree.specs.Tree.{Tree, root_of, tall, size, times, Balanced, Holds}
@@ -52,8 +53,11 @@ pub record ThreeAt {P R : Type 0} (ns : List (Node P R)) (s k one_is two_is thre
     pub low_b : tall b < 100
     pub low_c : tall c < 100
 
-abbrev pub Three : {P R : Type 0} → List (Node P R) → ℕ → ℕ → ℕ → ℕ → ℕ → Type 0
-Three {P} {R} ns s k ia ib ic = (a : Tree P R) × (b : Tree P R) × (c : Tree P R) × ThreeAt ns s k ia ib ic a b c
+abbrev pub ThreeApart : {P R : Type 0} → List (Node P R) → Apart P → Tree P R → Tree P R → Tree P R → Type 0
+ThreeApart ns x a b c = ThreeAt ns x.low.set x.high.set x.first x.second x.third a b c
+
+abbrev pub Three : {P R : Type 0} → List (Node P R) → Apart P → Type 0
+Three {P} {R} ns x = (a : Tree P R) × (b : Tree P R) × (c : Tree P R) × ThreeApart ns x a b c
 
 -- After a call the slots hold the tree t, and the slots that do not stand in it are as they were.
 pub record Done {P R : Type 0} (old new : List (Node P R)) (res : ℕ) (t : Tree P R) : Type 0 where

@@ -24,6 +24,10 @@ abbrev pub held_place : {P R : Type 0} → Option (Node P R) → Option P
 held_place None = None
 held_place (Some n) = Some n.place
 
+abbrev pub held_join : {P R : Type 0} → Option (Node P R) → Option R
+held_join None = None
+held_join (Some n) = Some n.join
+
 abbrev pub joined_over : {P R : Type 0} → Model P R → R → Option (Node P R) → R
 joined_over m r None = r
 joined_over m r (Some n) = m.joined r n.join

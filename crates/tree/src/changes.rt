@@ -10,7 +10,7 @@ ghost use Rattle.tree.specs.Contracted.{Grow, GrowAt, Treed, TreeAt, Paired, Pai
 
 use crate::node::Node;
 use crate::rotations::rebalance;
-use crate::slots::{branch_at, choose, clear, count_at, left_at, place_at, plant};
+use crate::slots::{branch_at, clear, count_at, left_at, place_at, plant};
 use buckets::{Entry, ahead_laws};
 use kinds::PlaceKind;
 
@@ -40,10 +40,8 @@ pub(crate) fn insert<P: PlaceKind>(
         place: here.place,
     };
     let goes_left = stands_ahead(entry, top);
-    let child = choose(goes_left, here.left, here.right);
-    let longer = insert(nodes, child, entry);
-    let left = choose(goes_left, longer, here.left);
-    let right = choose(goes_left, here.right, longer);
+    let longer = insert(nodes, here.child(goes_left), entry);
+    let (left, right) = here.with_child(goes_left, longer);
     rebalance(nodes, top, left, right)
 }
 
@@ -115,10 +113,8 @@ pub(crate) fn remove<P: PlaceKind>(
         place: here.place,
     };
     let goes_left = stands_ahead(entry, top);
-    let child = choose(goes_left, here.left, here.right);
-    let shorter = remove(nodes, child, entry);
-    let left = choose(goes_left, shorter, here.left);
-    let right = choose(goes_left, here.right, shorter);
+    let shorter = remove(nodes, here.child(goes_left), entry);
+    let (left, right) = here.with_child(goes_left, shorter);
     rebalance(nodes, top, left, right)
 }
 

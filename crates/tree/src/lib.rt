@@ -11,3 +11,4 @@ mod walks;
 
 pub use node::Node;
 pub use ranked_tree::RankedTree;
+pub use slots::{capacity, place_of};

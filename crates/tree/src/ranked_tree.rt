@@ -9,7 +9,7 @@ ghost use Rattle.tree.specs.Rows.{without, find, often};
 
 use crate::changes::{insert, take_out};
 use crate::node::Node;
-use crate::slots::{clear, count_at, height_at, limit, place_at};
+use crate::slots::{capacity, clear, count_at, height_at, limit, place_of};
 use crate::walks::{between, rank};
 use buckets::{Ends, Entry, ahead_laws, row_laws};
 use kinds::PlaceKind;
@@ -44,17 +44,14 @@ impl<'a, P: PlaceKind> RankedTree<'a, P> {
     pub fn capacity(&self) -> u16
         ensures { result ≡ capacity_of self.now }
     {
-        limit(self.slots).saturating_sub(1)
+        capacity(self.slots)
     }
 
     /// Where the set `set` is present, if it is.
     pub fn place_of(&self, set: u16) -> Option<P>
         ensures { result ≡ place_of self.now set }
     {
-        if set >= limit(self.slots) || count_at(self.slots, set) == 0 {
-            return None;
-        }
-        Some(place_at(self.slots, set))
+        place_of(self.slots, set)
     }
 
     /// Enters a set that is not present at a place.

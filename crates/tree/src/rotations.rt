@@ -2,7 +2,7 @@
 ghost use Rattle.std.specs.Prelude.{◌<◌, length};
 ghost use Rattle.tree.specs.Tree.{Tree, linked};
 ghost use Rattle.tree.specs.Shapes.{rotated_twice, rotated_right, rotated_left, evened};
-ghost use Rattle.tree.specs.Contracted.{Three, ThreeAt, Even, EvenAt, Done};
+ghost use Rattle.tree.specs.Contracted.{Three, ThreeApart, Even, EvenAt, Done};
 
 use crate::node::{Apart, Node};
 use crate::slots::{branch_at, height_at, plant};
@@ -11,8 +11,8 @@ use kinds::PlaceKind;
 
 // The low entry over the first tree and over the high entry, which is over the other two.
 pub(crate) fn rotate_once_right<P: PlaceKind>(nodes: &mut [Node<P, P::Region>], apart: Apart<P>)
-    requires { Three nodes.old apart.low.set apart.high.set apart.first apart.second apart.third }
-    ensures { (a b c : Tree P P.Region) → ThreeAt nodes.old apart.low.set apart.high.set apart.first apart.second apart.third a b c → Done nodes.old nodes.new apart.low.set (linked P.PlaceKind.model a apart.low.set apart.low.place (linked P.PlaceKind.model b apart.high.set apart.high.place c)) }
+    requires { Three nodes.old apart }
+    ensures { (a b c : Tree P P.Region) → ThreeApart nodes.old apart a b c → Done nodes.old nodes.new apart.low.set (linked P.PlaceKind.model a apart.low.set apart.low.place (linked P.PlaceKind.model b apart.high.set apart.high.place c)) }
 {
     plant(nodes, apart.high, apart.second, apart.third);
     plant(nodes, apart.low, apart.first, apart.high.set);
@@ -20,8 +20,8 @@ pub(crate) fn rotate_once_right<P: PlaceKind>(nodes: &mut [Node<P, P::Region>], 
 
 // The high entry over the low entry, which is over the first two trees, and over the third.
 pub(crate) fn rotate_once_left<P: PlaceKind>(nodes: &mut [Node<P, P::Region>], apart: Apart<P>)
-    requires { Three nodes.old apart.low.set apart.high.set apart.first apart.second apart.third }
-    ensures { (a b c : Tree P P.Region) → ThreeAt nodes.old apart.low.set apart.high.set apart.first apart.second apart.third a b c → Done nodes.old nodes.new apart.high.set (linked P.PlaceKind.model (linked P.PlaceKind.model a apart.low.set apart.low.place b) apart.high.set apart.high.place c) }
+    requires { Three nodes.old apart }
+    ensures { (a b c : Tree P P.Region) → ThreeApart nodes.old apart a b c → Done nodes.old nodes.new apart.high.set (linked P.PlaceKind.model (linked P.PlaceKind.model a apart.low.set apart.low.place b) apart.high.set apart.high.place c) }
 {
     plant(nodes, apart.low, apart.first, apart.second);
     plant(nodes, apart.high, apart.low.set, apart.third);
@@ -29,9 +29,9 @@ pub(crate) fn rotate_once_left<P: PlaceKind>(nodes: &mut [Node<P, P::Region>], a
 
 // The root of the second tree over both entries, which share its two trees.
 pub(crate) fn rotate_twice<P: PlaceKind>(nodes: &mut [Node<P, P::Region>], apart: Apart<P>)
-    requires three { Three nodes.old apart.low.set apart.high.set apart.first apart.second apart.third }
+    requires three { Three nodes.old apart }
     requires some { 0 < apart.second }
-    ensures { (a b c : Tree P P.Region) → ThreeAt nodes.old apart.low.set apart.high.set apart.first apart.second apart.third a b c → Done nodes.old nodes.new apart.second (rotated_twice P.PlaceKind.model a apart.low.set apart.low.place b apart.high.set apart.high.place c) }
+    ensures { (a b c : Tree P P.Region) → ThreeApart nodes.old apart a b c → Done nodes.old nodes.new apart.second (rotated_twice P.PlaceKind.model a apart.low.set apart.low.place b apart.high.set apart.high.place c) }
 {
     let middle = branch_at(nodes, apart.second);
     let top = Entry {

@@ -1,8 +1,9 @@
 //! Reading a slot field by field, and writing it whole.
 ghost use Rattle.std.specs.Prelude.{◌≡◌, ◌<◌, min, length, if◌then◌else◌, Some, slice_set};
 ghost use Rattle.tree.specs.declared.node.Node.{Node};
-ghost use Rattle.tree.specs.Slots.{at, height_of, count_of, left_child, right_child, held_place, joined_over, made, idle};
+ghost use Rattle.tree.specs.Slots.{at, height_of, count_of, left_child, right_child, held_place, held_join, joined_over, made, idle};
 ghost use Rattle.tree.specs.Tree.{Tree, linked};
+ghost use Rattle.tree.specs.Whole.{capacity, place_in};
 ghost use Rattle.tree.specs.Contracted.{Room, Two, TwoAt, Done};
 
 use crate::node::{Branch, Node};
@@ -73,6 +74,14 @@ pub(crate) fn place_at<P: PlaceKind>(nodes: &[Node<P, P::Region>], slot: u16) ->
     nodes[slot as usize].place
 }
 
+// The join of the regions at and below a node.
+pub(crate) fn join_at<P: PlaceKind>(nodes: &[Node<P, P::Region>], slot: u16) -> P::Region
+    requires { (0 < slot) × (slot < length nodes.now) }
+    ensures { held_join (at nodes.now slot) ≡ Some result }
+{
+    nodes[slot as usize].join
+}
+
 // What is given of the node at a slot.
 pub(crate) fn branch_at<P: PlaceKind>(nodes: &[Node<P, P::Region>], slot: u16) -> Branch<P>
     requires { (0 < slot) × (slot < length nodes.now) }
@@ -130,13 +139,15 @@ pub(crate) fn clear<P: PlaceKind>(nodes: &mut [Node<P, P::Region>], slot: u16)
     requires { (0 < slot) × (slot < length nodes.old) }
     ensures { (x : Node P P.Region) → at nodes.old slot ≡ Some x → nodes.new ≡ slice_set nodes.old slot (idle x) }
 {
-    let node = nodes[slot as usize];
+    let place = place_at(nodes, slot);
+    let join = join_at(nodes, slot);
     nodes[slot as usize] = Node {
+        place,
+        join,
         left: 0,
         right: 0,
         count: 0,
         height: 0,
-        ..node
     };
 }
 
@@ -147,9 +158,19 @@ pub(crate) fn limit<P: PlaceKind>(nodes: &[Node<P, P::Region>]) -> u16
     nodes.len().min(4096) as u16
 }
 
-// The first of two slots where the test holds, else the second.
-pub(crate) fn choose(test: bool, first: u16, second: u16) -> u16
-    ensures { result ≡ (if test then first else second) }
+/// The highest set number that the slots have room for.
+pub fn capacity<P: PlaceKind>(nodes: &[Node<P, P::Region>]) -> u16
+    ensures { result ≡ capacity nodes.now }
 {
-    if test { first } else { second }
+    limit(nodes).saturating_sub(1)
+}
+
+/// Where the set `set` is present, if it is.
+pub fn place_of<P: PlaceKind>(nodes: &[Node<P, P::Region>], set: u16) -> Option<P>
+    ensures { result ≡ place_in nodes.now set }
+{
+    if set >= limit(nodes) || count_at(nodes, set) == 0 {
+        return None;
+    }
+    Some(place_at(nodes, set))
 }

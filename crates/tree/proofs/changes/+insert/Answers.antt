@@ -18,8 +18,8 @@ insert-longer-requires g t c κs within =
     let y = c.requires.1 in
     let o = grow_open m p y c.if-root-eq0.false c.branch_at-here.ensures.place c.branch_at-here.ensures.left
     c.branch_at-here.ensures.right in (
-      fewer_child m p y o b c.choose-child.ensures _ c.decreases,
-      (within.0, (within.1, (_, grow_child m p y o b c.choose-child.ensures))),
+      fewer_child m p y o b c.child.ensures _ c.decreases,
+      (within.0, (within.1, (_, grow_child m p y o b c.child.ensures))),
     )
 
 pub rebalance-requires : goal.rebalance-requires
@@ -30,11 +30,11 @@ rebalance-requires g t c =
     let y = c.requires.1 in
     let o = grow_open m p y c.if-root-eq0.false c.branch_at-here.ensures.place c.branch_at-here.ensures.left
     c.branch_at-here.ensures.right in
-    let f = c.insert-longer.ensures _ (grow_child m p y o b c.choose-child.ensures) in (
+    let f = c.insert-longer.ensures _ (grow_child m p y o b c.child.ensures) in (
       _,
       _,
-      after_child m p y o b _ c.insert-longer.result c.choose-left.ensures
-          c.choose-right.ensures (omega arith) f,
+      after_child m p y o b _ c.insert-longer.result c.with_child-left.ensures.left
+          c.with_child-left.ensures.right (omega arith) f,
     )
 
 pub returns : goal.returns
@@ -44,8 +44,8 @@ returns g t c = λ u y.
     let b = c.stands_ahead-goes_left.result in
     let o = grow_open m p y c.if-root-eq0.false c.branch_at-here.ensures.place c.branch_at-here.ensures.left
     c.branch_at-here.ensures.right in
-    let f = c.insert-longer.ensures _ (grow_child m p y o b c.choose-child.ensures) in
+    let f = c.insert-longer.ensures _ (grow_child m p y o b c.child.ensures) in
     end_child m p y o b (sym c.stands_ahead-goes_left.ensures) f
     (c.rebalance.ensures _ _
-    (after_child m p y o b _ c.insert-longer.result c.choose-left.ensures c.choose-right.ensures
+    (after_child m p y o b _ c.insert-longer.result c.with_child-left.ensures.left c.with_child-left.ensures.right
     (omega arith) f))

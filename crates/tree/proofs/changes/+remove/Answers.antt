@@ -32,8 +32,8 @@ remove-shorter-requires g t c κs within =
     let y = c.requires.1 in
     let o = tree_open m y (omega arith) c.branch_at-here.ensures.place c.branch_at-here.ensures.left
     c.branch_at-here.ensures.right in (
-      less_child m y o b c.choose-child.ensures _ c.decreases,
-      (within.0, (within.1, (_, tree_child m y o b c.choose-child.ensures))),
+      less_child m y o b c.child.ensures _ c.decreases,
+      (within.0, (within.1, (_, tree_child m y o b c.child.ensures))),
     )
 
 pub rebalance-requires : goal.rebalance-requires
@@ -45,12 +45,12 @@ rebalance-requires g t c =
     let y = c.requires.1 in
     let o = tree_open m y (omega arith) c.branch_at-here.ensures.place c.branch_at-here.ensures.left
     c.branch_at-here.ensures.right in
-    let z = tree_child m y o b c.choose-child.ensures in
+    let z = tree_child m y o b c.child.ensures in
     let v = shrunk m p s (cond b o.d o.e) in
     let w = smaller m p s (cond b o.d o.e) z.balanced in
     let f = c.remove-shorter.ensures _ z in
-    let e = child_became m y o b v _ c.remove-shorter.result c.choose-left.ensures
-    c.choose-right.ensures w (omega arith) f in
+    let e = child_became m y o b v _ c.remove-shorter.result c.with_child-left.ensures.left
+    c.with_child-left.ensures.right w (omega arith) f in
     (_, _, e)
 
 pub returns : goal.returns
@@ -61,11 +61,11 @@ returns g t c = λ u y.
     let b = c.stands_ahead-goes_left.result in
     let o = tree_open m y (omega arith) c.branch_at-here.ensures.place c.branch_at-here.ensures.left
     c.branch_at-here.ensures.right in
-    let z = tree_child m y o b c.choose-child.ensures in
+    let z = tree_child m y o b c.child.ensures in
     let v = shrunk m p s (cond b o.d o.e) in
     let w = smaller m p s (cond b o.d o.e) z.balanced in
     let f = c.remove-shorter.ensures _ z in
-    let e = child_became m y o b v _ c.remove-shorter.result c.choose-left.ensures
-    c.choose-right.ensures w (omega arith) f in
+    let e = child_became m y o b v _ c.remove-shorter.result c.with_child-left.ensures.left
+    c.with_child-left.ensures.right w (omega arith) f in
     done_at m (shrunk_child m p s u o b c.if-entry-root.false (sym c.stands_ahead-goes_left.ensures))
     (then_child m b o.d v o.e c.args.root c.branch_at-here.result.place f (c.rebalance.ensures _ _ e))
