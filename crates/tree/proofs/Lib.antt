@@ -21,3 +21,4 @@ pub mod Clearing
 pub mod Loops
 pub mod TheRow
 pub mod Shaped
+pub mod Named

@@ -35,14 +35,10 @@ pub(crate) fn insert<P: PlaceKind>(
         return entry.set;
     }
     let here = branch_at(nodes, root);
-    let top = Entry {
-        set: root,
-        place: here.place,
-    };
-    let goes_left = stands_ahead(entry, top);
+    let goes_left = stands_ahead(entry, here.entry);
     let longer = insert(nodes, here.child(goes_left), entry);
     let (left, right) = here.with_child(goes_left, longer);
-    rebalance(nodes, top, left, right)
+    rebalance(nodes, here.entry, left, right)
 }
 
 // The first slot of the tree at `root`.
@@ -71,11 +67,7 @@ pub(crate) fn pull_first<P: PlaceKind>(nodes: &mut [Node<P, P::Region>], root: u
         return here.right;
     }
     let left = pull_first(nodes, here.left);
-    let top = Entry {
-        set: root,
-        place: here.place,
-    };
-    rebalance(nodes, top, left, here.right)
+    rebalance(nodes, here.entry, left, here.right)
 }
 
 // Makes one tree of those at `left` and `right`.
@@ -108,14 +100,10 @@ pub(crate) fn remove<P: PlaceKind>(
     if entry.set == root {
         return fuse(nodes, here.left, here.right);
     }
-    let top = Entry {
-        set: root,
-        place: here.place,
-    };
-    let goes_left = stands_ahead(entry, top);
+    let goes_left = stands_ahead(entry, here.entry);
     let shorter = remove(nodes, here.child(goes_left), entry);
     let (left, right) = here.with_child(goes_left, shorter);
-    rebalance(nodes, top, left, right)
+    rebalance(nodes, here.entry, left, right)
 }
 
 // Takes the entry of a set that is present out of the whole tree, marks its slot as not in use, and returns the new root.

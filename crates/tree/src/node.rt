@@ -14,10 +14,10 @@ pub struct Node<P, R> {
     pub height: u8,
 }
 
-// What is given of a node: its place, and the slots of its two children, 0 where there is none.
+// What is given of a node: its entry, and the slots of its two children, 0 where there is none.
 #[derive(Clone, Copy)]
 pub(crate) struct Branch<P> {
-    pub(crate) place: P,
+    pub(crate) entry: Entry<P>,
     pub(crate) left: u16,
     pub(crate) right: u16,
 }

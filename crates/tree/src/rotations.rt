@@ -34,13 +34,9 @@ pub(crate) fn rotate_twice<P: PlaceKind>(nodes: &mut [Node<P, P::Region>], apart
     ensures { (a b c : Tree P P.Region) → ThreeApart nodes.old apart a b c → Done nodes.old nodes.new apart.second (rotated_twice P.PlaceKind.model a apart.low.set apart.low.place b apart.high.set apart.high.place c) }
 {
     let middle = branch_at(nodes, apart.second);
-    let top = Entry {
-        set: apart.second,
-        place: middle.place,
-    };
     plant(nodes, apart.low, apart.first, middle.left);
     plant(nodes, apart.high, middle.right, apart.third);
-    plant(nodes, top, apart.low.set, apart.high.set);
+    plant(nodes, middle.entry, apart.low.set, apart.high.set);
 }
 
 // `entry` over the trees at `left` and `right`, of which the left one is too high.
@@ -57,10 +53,7 @@ pub(crate) fn rotate_right<P: PlaceKind>(
     let below = branch_at(nodes, left);
     let apart = Apart {
         first: below.left,
-        low: Entry {
-            set: left,
-            place: below.place,
-        },
+        low: below.entry,
         second: below.right,
         high: entry,
         third: right,
@@ -90,10 +83,7 @@ pub(crate) fn rotate_left<P: PlaceKind>(
         first: left,
         low: entry,
         second: below.left,
-        high: Entry {
-            set: right,
-            place: below.place,
-        },
+        high: below.entry,
         third: below.right,
     };
     if height_at(nodes, below.right) < height_at(nodes, below.left) {

@@ -85,12 +85,14 @@ pub(crate) fn join_at<P: PlaceKind>(nodes: &[Node<P, P::Region>], slot: u16) -> 
 // What is given of the node at a slot.
 pub(crate) fn branch_at<P: PlaceKind>(nodes: &[Node<P, P::Region>], slot: u16) -> Branch<P>
     requires { (0 < slot) × (slot < length nodes.now) }
-    ensures place { held_place (at nodes.now slot) ≡ Some result.place }
+    ensures set { result.entry.set ≡ slot }
+    ensures place { held_place (at nodes.now slot) ≡ Some result.entry.place }
     ensures left { result.left ≡ left_child (at nodes.now slot) }
     ensures right { result.right ≡ right_child (at nodes.now slot) }
 {
+    let place = place_at(nodes, slot);
     Branch {
-        place: place_at(nodes, slot),
+        entry: Entry { set: slot, place },
         left: left_at(nodes, slot),
         right: right_at(nodes, slot),
     }

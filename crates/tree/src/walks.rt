@@ -25,11 +25,7 @@ pub(crate) fn rank<P: PlaceKind>(nodes: &[Node<P, P::Region>], root: u16, entry:
         if entry.set == slot {
             return before + lower;
         }
-        let top = Entry {
-            set: slot,
-            place: here.place,
-        };
-        if stands_ahead(entry, top) {
+        if stands_ahead(entry, here.entry) {
             slot = here.left;
         } else {
             before = before + lower + 1;
@@ -59,7 +55,7 @@ pub(crate) fn suffix<P: PlaceKind>(
             skip = skip - lower - 1;
             slot = here.right;
         } else {
-            let own = P::join(joined, here.place.region());
+            let own = P::join(joined, here.entry.place.region());
             joined = joined_at(nodes, own, here.right);
             slot = here.left;
         }
@@ -86,7 +82,7 @@ pub(crate) fn prefix<P: PlaceKind>(
         if keep <= lower {
             slot = here.left;
         } else {
-            let own = P::join(joined, here.place.region());
+            let own = P::join(joined, here.entry.place.region());
             joined = joined_at(nodes, own, here.left);
             keep = keep - lower - 1;
             slot = here.right;
@@ -119,7 +115,7 @@ pub(crate) fn between<P: PlaceKind>(
             keep = keep - lower - 1;
             slot = here.right;
         } else {
-            let low = suffix(nodes, here.left, here.place.region(), skip);
+            let low = suffix(nodes, here.left, here.entry.place.region(), skip);
             return prefix(nodes, here.right, low, keep - lower - 1);
         }
     }

@@ -1,5 +1,6 @@
 use Rattle.std.proofs.Common.{sym, arith}
 use Rattle.tree.proofs.Rebalancing.{grow_root, grow_open, grow_child, fewer_child, after_child, end_child, end_leaf, leaf_two}
+use Rattle.tree.proofs.Named.{even_named, rebalanced, stands_named}
 use Rattle.tree.proofs.changes.+insert.Goals as goal
 
 pub returns-then-root-eq0 : goal.returns-then-root-eq0
@@ -33,8 +34,9 @@ rebalance-requires g t c =
     let f = c.insert-longer.ensures _ (grow_child m p y o b c.child.ensures) in (
       _,
       _,
-      after_child m p y o b _ c.insert-longer.result c.with_child-left.ensures.left
-          c.with_child-left.ensures.right (omega arith) f,
+      even_named c.branch_at-here.ensures.set
+          (after_child m p y o b _ c.insert-longer.result c.with_child-left.ensures.left
+          c.with_child-left.ensures.right (omega arith) f),
     )
 
 pub returns : goal.returns
@@ -45,7 +47,8 @@ returns g t c = λ u y.
     let o = grow_open m p y c.if-root-eq0.false c.branch_at-here.ensures.place c.branch_at-here.ensures.left
     c.branch_at-here.ensures.right in
     let f = c.insert-longer.ensures _ (grow_child m p y o b c.child.ensures) in
-    end_child m p y o b (sym c.stands_ahead-goes_left.ensures) f
-    (c.rebalance.ensures _ _
+    let stands = stands_named m c.branch_at-here.ensures.set c.args.entry c.branch_at-here.result.entry.place b c.stands_ahead-goes_left.ensures in
+    end_child m p y o b (sym stands) f
+    (rebalanced m c.branch_at-here.ensures.set c.branch_at-here.result.entry.place c.rebalance.ensures _ _
     (after_child m p y o b _ c.insert-longer.result c.with_child-left.ensures.left c.with_child-left.ensures.right
     (omega arith) f))

@@ -2,6 +2,7 @@ use Rattle.std.proofs.Common.{arith}
 use Rattle.tree.specs.Shapes.{pulled}
 use Rattle.tree.proofs.Rebalancing.{done_at}
 use Rattle.tree.proofs.Removal.{tree_root, tree_open, tree_left, less_left, left_became, then_left, pulled_is, smaller_pulled}
+use Rattle.tree.proofs.Named.{even_named, rebalanced}
 use Rattle.tree.proofs.changes.+pull_first.Goals as goal
 
 pub branch_at-here-requires : goal.branch_at-here-requires
@@ -24,8 +25,9 @@ rebalance-requires g t c =
     let w = smaller_pulled m o.d (tree_left m y o).balanced in (
       _,
       _,
-      left_became m y o (pulled m o.d) _ c.pull_first-left.result w (omega arith)
-          (c.pull_first-left.ensures _ (tree_left m y o)),
+      even_named c.branch_at-here.ensures.set
+          (left_became m y o (pulled m o.d) _ c.pull_first-left.result w (omega arith)
+          (c.pull_first-left.ensures _ (tree_left m y o))),
     )
 
 pub returns : goal.returns
@@ -37,5 +39,5 @@ returns g t c = λ u y.
     let f = c.pull_first-left.ensures _ (tree_left m y o) in
     let e = left_became m y o (pulled m o.d) _ c.pull_first-left.result w (omega arith) f in
     done_at m (pulled_is m y o c.if-here-eq0.false)
-    (then_left m (pulled m o.d) o.e c.args.root c.branch_at-here.result.place f
-    (c.rebalance.ensures _ _ e))
+    (then_left m (pulled m o.d) o.e c.args.root c.branch_at-here.result.entry.place f
+    (rebalanced m c.branch_at-here.ensures.set c.branch_at-here.result.entry.place c.rebalance.ensures _ _ e))

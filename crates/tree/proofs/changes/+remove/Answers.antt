@@ -3,6 +3,7 @@ use Rattle.tree.specs.Shapes.{shrunk}
 use Rattle.tree.proofs.Rebalancing.{done_at}
 use Rattle.tree.proofs.Shrinking.{smaller}
 use Rattle.tree.proofs.Removal.{tree_root, tree_open, tree_child, tree_pair, less_child, child_became, then_child, shrunk_here, shrunk_child}
+use Rattle.tree.proofs.Named.{even_named, rebalanced, stands_named}
 use Rattle.tree.proofs.changes.+remove.Goals as goal
 
 pub branch_at-here-requires : goal.branch_at-here-requires
@@ -51,7 +52,7 @@ rebalance-requires g t c =
     let f = c.remove-shorter.ensures _ z in
     let e = child_became m y o b v _ c.remove-shorter.result c.with_child-left.ensures.left
     c.with_child-left.ensures.right w (omega arith) f in
-    (_, _, e)
+    (_, _, even_named c.branch_at-here.ensures.set e)
 
 pub returns : goal.returns
 returns g t c = λ u y.
@@ -67,5 +68,7 @@ returns g t c = λ u y.
     let f = c.remove-shorter.ensures _ z in
     let e = child_became m y o b v _ c.remove-shorter.result c.with_child-left.ensures.left
     c.with_child-left.ensures.right w (omega arith) f in
-    done_at m (shrunk_child m p s u o b c.if-entry-root.false (sym c.stands_ahead-goes_left.ensures))
-    (then_child m b o.d v o.e c.args.root c.branch_at-here.result.place f (c.rebalance.ensures _ _ e))
+    let stands = stands_named m c.branch_at-here.ensures.set c.args.entry c.branch_at-here.result.entry.place b c.stands_ahead-goes_left.ensures in
+    done_at m (shrunk_child m p s u o b c.if-entry-root.false (sym stands))
+    (then_child m b o.d v o.e c.args.root c.branch_at-here.result.entry.place f
+    (rebalanced m c.branch_at-here.ensures.set c.branch_at-here.result.entry.place c.rebalance.ensures _ _ e))

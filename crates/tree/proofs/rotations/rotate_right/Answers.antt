@@ -1,6 +1,7 @@
 use Rattle.std.proofs.Common.{arith}
 use Rattle.tree.proofs.Held.{root_in, height_is, tall_root}
 use Rattle.tree.proofs.Rebalancing.{open_left, three_left, right_is_both, right_is_once, done_at}
+use Rattle.tree.proofs.Named.{low_named, low_turned, right_turned}
 use Rattle.tree.proofs.rotations.rotate_right.Goals as goal
 
 pub height_at-requires : goal.height_at-requires
@@ -34,7 +35,7 @@ rotate_twice-requires g c =
     let he = height_is ns c.branch_at-below.result.right c.height_at-2.result o.e z.b_is
     c.height_at-2.ensures z.held_b in
     record {
-      three = (_, _, _, z);
+      three = (_, _, _, low_named c.branch_at-below.ensures.set z);
       some = tall_root o.e ns c.branch_at-below.result.right z.b_is z.held_b
           (omega (arith, he, c.if-height_at.true));
     }
@@ -47,7 +48,7 @@ rotate_once_right-requires g c =
     let o = open_left m y c.requires.some.0 c.branch_at-below.ensures.place c.branch_at-below.ensures.left
     c.branch_at-below.ensures.right in
     let z = three_left m y c.requires.some o in
-    (_, _, _, z)
+    (_, _, _, low_named c.branch_at-below.ensures.set z)
 
 pub returns-then-height_at : goal.returns-then-height_at
 returns-then-height_at g c =
@@ -62,7 +63,7 @@ returns-then-height_at g c =
     let he = height_is ns c.branch_at-below.result.right c.height_at-2.result o.e z.b_is
     c.height_at-2.ensures z.held_b in
     done_at m (right_is_both m l o c.args.entry.set c.args.entry.place r (omega (arith, hd, he, c.if-height_at.true)))
-    (c.rotate_twice.ensures _ _ _ z)
+    (low_turned m c.branch_at-below.ensures.set c.branch_at-below.result.entry.place c.args.entry.place c.rotate_twice.ensures _ _ _ z)
 
 pub returns-else-height_at : goal.returns-else-height_at
 returns-else-height_at g c =
@@ -77,4 +78,4 @@ returns-else-height_at g c =
     let he = height_is ns c.branch_at-below.result.right c.height_at-2.result o.e z.b_is
     c.height_at-2.ensures z.held_b in
     done_at m (right_is_once m l o c.args.entry.set c.args.entry.place r (omega (arith, hd, he, c.if-height_at.false)))
-    (c.rotate_once_right.ensures _ _ _ z)
+    (right_turned m c.branch_at-below.ensures.set c.branch_at-below.result.entry.place c.args.entry.place c.rotate_once_right.ensures _ _ _ z)

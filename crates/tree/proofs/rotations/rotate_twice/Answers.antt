@@ -3,6 +3,7 @@ use Rattle.tree.specs.Shapes.{rotated_twice}
 use Rattle.tree.specs.Contracted.{Done}
 use Rattle.tree.proofs.Held.{holds_root}
 use Rattle.tree.proofs.Writes.{both_first, both_second, both_third, done_done, opened, opened_three}
+use Rattle.tree.proofs.Named.{two_named, planted}
 use Rattle.tree.proofs.rotations.rotate_twice.Goals as goal
 
 pub branch_at-middle-requires : goal.branch_at-middle-requires
@@ -19,7 +20,7 @@ plant-requires g c =
     c.branch_at-middle.ensures.place c.branch_at-middle.ensures.left c.branch_at-middle.ensures.right in (
       _,
       _,
-      both_first m c.branch_at-middle.result.place o.v c.branch_at-middle.result.left c.branch_at-middle.result.right
+      both_first m c.branch_at-middle.result.entry.place o.v c.branch_at-middle.result.left c.branch_at-middle.result.right
           (opened_three m y o) o.left_is o.right_is,
     )
 
@@ -31,11 +32,11 @@ plant-requires-2 g c =
     c.branch_at-middle.ensures.place c.branch_at-middle.ensures.left c.branch_at-middle.ensures.right in
     let z = opened_three m y o in
     let f = c.plant.ensures _ _
-    (both_first m c.branch_at-middle.result.place o.v c.branch_at-middle.result.left c.branch_at-middle.result.right z
+    (both_first m c.branch_at-middle.result.entry.place o.v c.branch_at-middle.result.left c.branch_at-middle.result.right z
     o.left_is o.right_is) in (
       _,
       _,
-      both_second m c.branch_at-middle.result.place o.v c.branch_at-middle.result.left c.branch_at-middle.result.right z
+      both_second m c.branch_at-middle.result.entry.place o.v c.branch_at-middle.result.left c.branch_at-middle.result.right z
           o.left_is o.right_is c.args.apart.low.place _ (omega arith) f,
     )
 
@@ -47,15 +48,16 @@ plant-requires-3 g c =
     c.branch_at-middle.ensures.place c.branch_at-middle.ensures.left c.branch_at-middle.ensures.right in
     let z = opened_three m y o in
     let f = c.plant.ensures _ _
-    (both_first m c.branch_at-middle.result.place o.v c.branch_at-middle.result.left c.branch_at-middle.result.right z
+    (both_first m c.branch_at-middle.result.entry.place o.v c.branch_at-middle.result.left c.branch_at-middle.result.right z
     o.left_is o.right_is) in
     let h = c.plant-2.ensures _ _
-    (both_second m c.branch_at-middle.result.place o.v c.branch_at-middle.result.left c.branch_at-middle.result.right z
+    (both_second m c.branch_at-middle.result.entry.place o.v c.branch_at-middle.result.left c.branch_at-middle.result.right z
     o.left_is o.right_is c.args.apart.low.place _ (omega arith) f) in (
       _,
       _,
-      both_third m c.branch_at-middle.result.place o.v c.branch_at-middle.result.left c.branch_at-middle.result.right z
-          o.left_is o.right_is c.args.apart.low.place c.args.apart.high.place _ _ (omega arith) f h,
+      two_named c.branch_at-middle.ensures.set
+          (both_third m c.branch_at-middle.result.entry.place o.v c.branch_at-middle.result.left c.branch_at-middle.result.right z
+          o.left_is o.right_is c.args.apart.low.place c.args.apart.high.place _ _ (omega arith) f h),
     )
 
 pub returns : goal.returns
@@ -66,13 +68,13 @@ returns g c =
     c.branch_at-middle.ensures.left c.branch_at-middle.ensures.right in
     let z = opened_three m y o in
     let f = c.plant.ensures _ _
-    (both_first m c.branch_at-middle.result.place o.v c.branch_at-middle.result.left c.branch_at-middle.result.right z
+    (both_first m c.branch_at-middle.result.entry.place o.v c.branch_at-middle.result.left c.branch_at-middle.result.right z
     o.left_is o.right_is) in
     let h = c.plant-2.ensures _ _
-    (both_second m c.branch_at-middle.result.place o.v c.branch_at-middle.result.left c.branch_at-middle.result.right z
+    (both_second m c.branch_at-middle.result.entry.place o.v c.branch_at-middle.result.left c.branch_at-middle.result.right z
     o.left_is o.right_is c.args.apart.low.place _ (omega arith) f) in
-    let i = c.plant-3.ensures _ _
-    (both_third m c.branch_at-middle.result.place o.v c.branch_at-middle.result.left c.branch_at-middle.result.right z
+    let i = planted m c.branch_at-middle.ensures.set c.branch_at-middle.result.entry.place c.plant-3.ensures _ _
+    (both_third m c.branch_at-middle.result.entry.place o.v c.branch_at-middle.result.left c.branch_at-middle.result.right z
     o.left_is o.right_is c.args.apart.low.place c.args.apart.high.place _ _ (omega arith) f h) in
     subst (λ t. Done c.args.nodes.now c.plant-3.new.nodes c.args.apart.second
     (rotated_twice m ta c.args.apart.low.set c.args.apart.low.place t c.args.apart.high.set c.args.apart.high.place tc)) (sym o.is)

@@ -2,6 +2,7 @@ use Rattle.std.proofs.Common.{sym, refl, arith}
 use Rattle.tree.proofs.Removal.{tree_root, tree_open, less_left, less_right}
 use Rattle.tree.proofs.Descent.{left_in}
 use Rattle.tree.proofs.Loops.{rank_end, rank_few, rank_found, rank_step_left, rank_step_right}
+use Rattle.tree.proofs.Named.{stands_named}
 use Rattle.tree.proofs.walks.rank.Goals as goal
 
 pub loop-slot-init : goal.loop-slot-init
@@ -50,7 +51,7 @@ loop-slot-preserved-then-stands_ahead g c = λ t y.
     let o = tree_open m w.held (omega arith) c.branch_at-here.ensures.place c.branch_at-here.ensures.left
     c.branch_at-here.ensures.right in
     rank_step_left m c.args.entry.place c.args.entry.set w o c.count_at-lower.ensures c.if-entry-slot.false
-    (sym c.if-stands_ahead.ensures)
+    (sym (stands_named m c.branch_at-here.ensures.set c.args.entry c.branch_at-here.result.entry.place _ c.if-stands_ahead.ensures))
 
 pub overflow_add-before : goal.overflow_add-before
 overflow_add-before g c =
@@ -85,7 +86,7 @@ loop-slot-preserved g c = λ t y.
     let o = tree_open m w.held (omega arith) c.branch_at-here.ensures.place c.branch_at-here.ensures.left
     c.branch_at-here.ensures.right in
     rank_step_right m c.args.entry.place c.args.entry.set w o c.count_at-lower.ensures c.if-entry-slot.false
-    (sym c.if-stands_ahead.ensures)
+    (sym (stands_named m c.branch_at-here.ensures.set c.args.entry c.branch_at-here.result.entry.place _ c.if-stands_ahead.ensures))
 
 pub returns : goal.returns
 returns g c =
