@@ -63,7 +63,7 @@ impl<'a, P: PlaceKind> Register<'a, P> {
     fn check_number(&self, set: u16) -> Result<(), RegisterFault>
         ensures { result ≡ if_true (numbered (capacity_of self.now) set) RegisterFault.NoSuchSet (Ok tt) }
     {
-        if 1 <= set && set <= self.capacity() {
+        if (1..=self.capacity()).contains(&set) {
             Ok(())
         } else {
             Err(RegisterFault::NoSuchSet)
@@ -118,7 +118,7 @@ impl<'a, P: PlaceKind> Register<'a, P> {
         ensures { result ≡ asker_answer (capacity_of self.now) set size }
     {
         self.check_number(set)?;
-        if size < 2 || size > 64 {
+        if !(2..=64).contains(&size) {
             return Err(RegisterFault::Size);
         }
         Ok(())
@@ -144,7 +144,6 @@ impl<'a, P: PlaceKind> Register<'a, P> {
     {
         bucket_laws();
         self.tree.one_row();
-        let _count = self.tree.count();
         let Some(ends) = self.ends_of(entry, size) else {
             return Err(RegisterFault::TooFew);
         };
@@ -176,6 +175,5 @@ impl<'a, P: PlaceKind> Register<'a, P> {
     {
         row_laws::<P>();
         self.tree.one_row();
-        let _count = self.tree.count();
     }
 }

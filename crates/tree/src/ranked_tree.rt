@@ -133,9 +133,10 @@ impl<'a, P: PlaceKind> RankedTree<'a, P> {
         height_at(self.slots, self.root)
     }
 
-    /// The tree's row is the row of the present sets, where the tree is in order.
+    /// The tree's row holds each set at its place and no set twice, and is the row of the present sets, where the tree is in order.
     pub fn one_row(&self)
-        ensures { InOrder P.PlaceKind.model self.now → row_of self.now ≡ row P.PlaceKind.model (place_of self.now) (capacity_of self.now) }
+        ensures row { (j : ℕ) → (find j (row_of self.now) ≡ place_of self.now j) × (often j (row_of self.now) ≤ 1) }
+        ensures one { InOrder P.PlaceKind.model self.now → row_of self.now ≡ row P.PlaceKind.model (place_of self.now) (capacity_of self.now) }
     {
         row_laws::<P>();
     }

@@ -13,8 +13,8 @@ returns-in_default g c =
     let row = row_of m r in
     let n = c.args.entry.set in
     let found : find n row ≡ Some c.args.entry.place =
-    subst (λ es. find n es ≡ Some c.args.entry.place) (c.one_row.ensures r.order)
-    ((c.count-count.ensures.row n).0 ∙ c.requires.there) in
+    subst (λ es. find n es ≡ Some c.args.entry.place) (c.one_row.ensures.one r.order)
+    ((c.one_row.ensures.row n).0 ∙ c.requires.there) in
     bucket_none m row n c.args.size (rank_of n row) c.requires.size
     (rank_within n row c.args.entry.place found) c.in_default.ensures.value
 
@@ -26,4 +26,4 @@ returns g c =
     let n = c.args.entry.set in
     bucket_told m c.bucket_laws.ensures row n c.args.size (rank_of n row)
     c.in-Some.ends c.covers-region.result refl c.in-Some.ensures.value
-    (λ x xs h. c.covers-region.ensures r.order x xs (ap (members c.in-Some.ends) (c.one_row.ensures r.order) ∙ h))
+    (λ x xs h. c.covers-region.ensures r.order x xs (ap (members c.in-Some.ends) (c.one_row.ensures.one r.order) ∙ h))
