@@ -2,7 +2,7 @@
 use buckets::Ends;
 
 /// The first and the last rank of a bucket, and the region of its members.
-#[derive(Clone, Copy)]
+#[derive(Clone, Copy, PartialEq, Eq, Debug)]
 pub struct Bucket<R> {
     pub ends: Ends,
     pub region: R,

@@ -1,7 +1,7 @@
 //! The register and its calls.
 ghost use Rattle.tree.specs.OneProof.{in_order_prop};
 ghost use Rattle.tree.specs.View.{InOrder};
-ghost use Rattle.std.specs.Prelude.{◌≡◌, ℕ, ◌-◌, ◌<◌, ◌≤◌, min, true, false, length, is_ok, Some, None, Ok};
+ghost use Rattle.std.specs.Prelude.{◌≡◌, ℕ, ◌-◌, ◌<◌, ◌≤◌, min, false, length, is_ok, Some, None, Ok};
 ghost use Rattle.buckets.specs.Ends.{ends_of_rank};
 ghost use Rattle.buckets.specs.Rows.{rank_of};
 ghost use Rattle.std.specs.List.{slice_get};
@@ -144,9 +144,7 @@ impl<'a, P: PlaceKind> Register<'a, P> {
     {
         bucket_laws();
         self.tree.one_row();
-        let Some(ends) = self.ends_of(entry, size) else {
-            return Err(RegisterFault::TooFew);
-        };
+        let ends = self.ends_of(entry, size).ok_or(RegisterFault::TooFew)?;
         let region = self.tree.covers(ends);
         Ok(Bucket { ends, region })
     }
