@@ -1,4 +1,3 @@
-pub mod Reading
 pub mod Held
 pub mod Writes
 pub mod Balance
