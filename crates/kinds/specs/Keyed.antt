@@ -1,4 +1,4 @@
--- The key that a place on the plane carries beside its two numbers.
+-- The key that a place on the plane carries beside its cell.
 use Rattle.std.specs.Prelude.{ℕ, Bool, true, cond, ◌&&◌, ◌==◌}
 use Rattle.curve.specs.declared.Cell.{Cell}
 use Rattle.curve.specs.Hilbert.{key_of, cell_of}

@@ -26,7 +26,7 @@ impl PlaceKind for CoursePlace {
     ghost lawful = { course_laws };
 
     fn check(&self) -> Result<(), KindFault> {
-        if 1 <= self.reach && self.reach <= 999 && self.offset <= 50_000 {
+        if (1..=999).contains(&self.reach) && self.offset <= 50_000 {
             Ok(())
         } else {
             Err(KindFault::NotAdmitted)

@@ -1,8 +1,11 @@
 //! What a kind refuses.
-ghost use Rattle.std.specs.Prelude.{◌≡◌};
+ghost use Rattle.std.specs.Prelude.{◌≡◌, Some};
+ghost use Rattle.refusals.specs.Words.{refusal_text};
 ghost use Rattle.kinds.specs.Faults.{kind_refusal};
 
 use refusals::{Part, Refusal};
+use std::error::Error;
+use std::fmt;
 
 /// Why a kind refuses.
 #[derive(Clone, Copy, PartialEq, Eq, Debug)]
@@ -23,3 +26,15 @@ impl From<KindFault> for Refusal {
         }
     }
 }
+
+/// In print, a fault is its refusal.
+impl fmt::Display for KindFault {
+    ghost output = { λ e. Some (refusal_text (kind_refusal e)) };
+
+    fn fmt<W: fmt::Write>(&self, f: &mut fmt::Formatter<W>) -> fmt::Result {
+        let refusal = Refusal::from(*self);
+        write!(f, "{refusal}")
+    }
+}
+
+impl Error for KindFault {}

@@ -72,9 +72,7 @@ impl<P: PlaceKind> PlaceKind for WaterPlace<P> {
     }
 
     fn bytes(region: WaterRegion<P::Region>) -> Result<[u8; 24], KindFault> {
-        if P::width() > 20 {
-            return Err(KindFault::TooWide);
-        }
+        Self::fits()?;
         let below = P::bytes(region.below)?;
         Ok(before_water::<P>(region, below))
     }
