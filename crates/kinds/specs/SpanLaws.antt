@@ -1,5 +1,4 @@
--- Spans in a total order whose equal values are the same: joining is associative, commutative and idempotent, a span lies
--- within another exactly where their join is the other, and within the span of one value lies that of no other.
+-- Spans in a total order whose equal values are the same: joining is associative, commutative and idempotent, and within the span of one value lies that of no other.
 use Rattle.std.specs.Prelude.{◌≡◌, ℕ, Bool, true, false, cond, ◌&&◌, Decides, refl}
 use Rattle.std.specs.declared.cmp.Ordering.{Ordering}
 use Rattle.std.specs.declared.cmp.Ordering.TheVariants.{Less, Equal, Greater}
@@ -22,19 +21,10 @@ lt_not_gt Less e = refl
 lt_not_gt Equal e = refl
 lt_not_gt Greater e = absurd (true≢false (sym e))
 
-le_not_gt : (o : Ordering) → is_le o ≡ true → is_gt o ≡ false
-le_not_gt Less e = refl
-le_not_gt Equal e = refl
-le_not_gt Greater e = absurd (true≢false (sym e))
-
 neither : (o : Ordering) → is_gt o ≡ false → is_lt o ≡ false → o ≡ Equal
 neither Less g l = absurd (true≢false l)
 neither Equal g l = refl
 neither Greater g l = absurd (true≢false g)
-
-both : (a b : Bool) → (a && b) ≡ true → (a ≡ true) × (b ≡ true)
-both true b e = (refl, e)
-both false b e = absurd (true≢false (sym e))
 
 module _ {T : Type 0} (cmp : T → T → Ordering) (total : IsTotalOrder cmp)
     (same : (a b : T) → cmp a b ≡ Equal → a ≡ b) where
@@ -130,35 +120,6 @@ module _ {T : Type 0} (cmp : T → T → Ordering) (total : IsTotalOrder cmp)
   pub one_alone : (a b : T) → joined cmp (one b) (one a) ≡ one a → b ≡ a
   one_alone a b e =
       tells b a (high_upto b a (ap (λ (s : Span T). s.high) e)) (low_upto b a (ap (λ (s : Span T). s.low) e))
-
-  min_is : (a b : T) (t : Bool) → is_lt (cmp b a) ≡ t → is_gt (cmp b a) ≡ false → cond t b a ≡ b
-  min_is a b true e l = refl
-  min_is a b false e l = tells a b (turned a b ∙ e) l
-
-  max_is : (a b : T) (t : Bool) → is_lt (cmp b a) ≡ t → is_gt (cmp a b) ≡ false → cond t a b ≡ b
-  max_is a b true e l = absurd (true≢false (sym e ∙ sym (turned a b) ∙ l))
-  max_is a b false e l = refl
-
-  gt_le : (o : Ordering) → is_gt o ≡ false → is_le o ≡ true
-  gt_le Less e = refl
-  gt_le Equal e = refl
-  gt_le Greater e = absurd (true≢false e)
-
-  and_true : (p q : Bool) → p ≡ true → q ≡ true → (p && q) ≡ true
-  and_true true q e f = f
-  and_true false q e f = e
-
-  pub inside_decides : (a b : Span T) → Decides (inside cmp a b) (joined cmp a b ≡ b)
-  inside_decides a b = (
-    λ e.
-        let t = both _ _ e in
-        let p = min_is a.low b.low _ refl (le_not_gt _ t.0) in
-        let q = max_is a.high b.high _ refl (le_not_gt _ t.1) in
-        λ i. span (p i) (q i),
-    λ e.
-        and_true _ _ (gt_le _ (low_upto a.low b.low (ap (λ (s : Span T). s.low) e)))
-        (gt_le _ (high_upto a.high b.high (ap (λ (s : Span T). s.high) e))),
-  )
 
 pub same_number : (a b : ℕ) → nat_cmp a b ≡ Equal → a ≡ b
 same_number a b p = grind (arith, nat_tests)
