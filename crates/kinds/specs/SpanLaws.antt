@@ -1,14 +1,15 @@
--- Spans in a total order whose equal values are the same: joining is associative, commutative and idempotent, and within the span of one value lies that of no other.
-use Rattle.std.specs.Prelude.{◌≡◌, ℕ, Bool, true, false, cond, ◌&&◌, Decides, refl}
+-- Spans in a total order whose equal values are the same: joining is associative, commutative and idempotent, and within
+-- the span of one value lies that of no other.
+use Rattle.std.specs.Prelude.{◌≡◌, ℕ, Bool, true, false, cond, refl}
 use Rattle.std.specs.declared.cmp.Ordering.{Ordering}
 use Rattle.std.specs.declared.cmp.Ordering.TheVariants.{Less, Equal, Greater}
-use Rattle.std.specs.Ordering.{ordering_reverse, is_lt, is_gt, is_le, ord_min, ord_max, nat_cmp}
+use Rattle.std.specs.Ordering.{ordering_reverse, is_lt, is_gt, ord_min, ord_max, nat_cmp}
 use Rattle.std.specs.Cmp.{IsTotalOrder}
 use Rattle.std.proofs.Common.{sym, ap, ◌∙◌, true≢false, arith}
 use Rattle.std.proofs.lemmas.Bool.Decides.{nat_tests}
 use Rattle.std.proofs.lemmas.Cmp.{upto, tied_itself}
 use Rattle.kinds.specs.declared.span.Span.{Span}
-use Rattle.kinds.specs.Span.{span, one, joined, inside}
+use Rattle.kinds.specs.Span.{span, one, joined}
 use Rattle.kinds.specs.Least.{least_commutes, least_associates}
 
 gt_turned : (o : Ordering) → is_gt (ordering_reverse o) ≡ is_lt o

@@ -1,9 +1,13 @@
-//! A place on the plane, in a file of its own: the ghost fields may not depend on what cites the struct.
+//! A place on the plane. Its impl names what it cites inside: the ghost fields may not depend on what cites the struct.
 ghost use Rattle.std.specs.Prelude.{◌≡◌, true};
 ghost use Rattle.curve.specs.Hilbert.{cell as cell_xy};
 ghost use Rattle.kinds.specs.Keyed.{carried, leads_back};
-ghost use Rattle.std.specs.Ordering.{nat_cmp};
 
+use crate::bytes::two_numbers_before;
+use crate::fault::KindFault;
+use crate::kind::PlaceKind;
+use crate::plane::PlaneRegion;
+use crate::span::Span;
 use curve::Cell;
 use std::cmp::Ordering;
 
@@ -46,10 +50,55 @@ impl PlanePlace {
     {
         self.cell.y
     }
+}
 
-    pub(crate) fn compare_keys(&self, other: &PlanePlace) -> Ordering
-        ensures { result ≡ nat_cmp (carried self.now.cell) (carried other.now.cell) }
-    {
+impl PlaceKind for PlanePlace {
+    ghost use Rattle.kinds.specs.Plane.{plane as plane_model};
+    ghost use Rattle.kinds.specs.PlaneLaws.{plane_laws};
+
+    type Region = PlaneRegion;
+
+    ghost model = { plane_model };
+
+    ghost lawful = { plane_laws };
+
+    fn check(&self) -> Result<(), KindFault> {
+        if self.x() < curve::SIDE && self.y() < curve::SIDE {
+            Ok(())
+        } else {
+            Err(KindFault::NotAdmitted)
+        }
+    }
+
+    fn compare(&self, other: &PlanePlace) -> Ordering {
         self.key.cmp(&other.key)
+    }
+
+    fn region(&self) -> PlaneRegion {
+        PlaneRegion {
+            x: Span::of(self.x()),
+            y: Span::of(self.y()),
+        }
+    }
+
+    fn join(a: PlaneRegion, b: PlaneRegion) -> PlaneRegion {
+        PlaneRegion {
+            x: a.x.join(b.x),
+            y: a.y.join(b.y),
+        }
+    }
+
+    fn within(a: PlaneRegion, b: PlaneRegion) -> bool {
+        a.x.within(b.x) && a.y.within(b.y)
+    }
+
+    fn width() -> u8 {
+        8
+    }
+
+    fn bytes(region: PlaneRegion) -> Result<[u8; 24], KindFault> {
+        let PlaneRegion { x, y } = region;
+        let y = two_numbers_before(y.low, y.high, [0; 24]);
+        Ok(two_numbers_before(x.low, x.high, y))
     }
 }
