@@ -1,4 +1,4 @@
--- What the spool means: a ring over the bytes that it was handed. The other bytes may hold anything.
+-- What the spool means: a ring over its slots. Free slots may hold anything.
 use Rattle.std.specs.Prelude.{ℕ, ◌/◌, min, List, length}
 use Rattle.lines.specs.declared.spool.Spool.{Spool}
 use Rattle.lines.specs.Ring.{ring}

@@ -1,10 +1,13 @@
 //! What a message is refused for, and what a line refuses.
-ghost use Rattle.std.specs.Prelude.{◌≡◌};
+ghost use Rattle.std.specs.Prelude.{◌≡◌, Some};
+ghost use Rattle.refusals.specs.Words.{refusal_text};
 ghost use Rattle.lines.specs.declared.fault.MessageFault.TheVariants.{Kind as OfKind};
 ghost use Rattle.lines.specs.MessageFaults.{message_refusal, line_refusal};
 
 use kinds::KindFault;
 use refusals::{Part, Refusal};
+use std::error::Error;
+use std::fmt;
 
 /// Why a message cannot be made.
 #[derive(Clone, Copy, PartialEq, Eq, Debug)]
@@ -37,6 +40,18 @@ impl From<MessageFault> for Refusal {
     }
 }
 
+/// In print, a fault is its refusal.
+impl fmt::Display for MessageFault {
+    ghost output = { λ e. Some (refusal_text (message_refusal e)) };
+
+    fn fmt<W: fmt::Write>(&self, f: &mut fmt::Formatter<W>) -> fmt::Result {
+        let message_refusal = Refusal::from(*self);
+        write!(f, "{message_refusal}")
+    }
+}
+
+impl Error for MessageFault {}
+
 /// Why a line refuses.
 #[derive(Clone, Copy, PartialEq, Eq, Debug)]
 pub enum LineFault {
@@ -58,3 +73,15 @@ impl From<LineFault> for Refusal {
         }
     }
 }
+
+/// In print, a fault is its refusal.
+impl fmt::Display for LineFault {
+    ghost output = { λ e. Some (refusal_text (line_refusal e)) };
+
+    fn fmt<W: fmt::Write>(&self, f: &mut fmt::Formatter<W>) -> fmt::Result {
+        let line_refusal = Refusal::from(*self);
+        write!(f, "{line_refusal}")
+    }
+}
+
+impl Error for LineFault {}

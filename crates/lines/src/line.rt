@@ -4,6 +4,9 @@ ghost use Rattle.lines.specs.Meaning.{spare_of, send_answer, after_send, take_an
 
 use crate::fault::LineFault;
 
+/// How many bytes a message has.
+pub(crate) const SIZE: usize = 64;
+
 /// A line to the service. What it means is the list of the messages that wait in it, oldest first, and its capacity, which
 /// no call changes.
 pub trait Line {

@@ -4,6 +4,7 @@ ghost use Rattle.lines.specs.Message.{header as header_of, text_bytes, text_fits
 ghost use Rattle.lines.specs.MessageFaults.{text_checked, message_answer};
 
 use crate::fault::MessageFault;
+use crate::line::SIZE;
 use kinds::PlaceKind;
 
 /// How many bytes a text may have.
@@ -38,10 +39,10 @@ fn padded_text(text: &[u8]) -> [u8; 30]
 }
 
 // The three parts, one behind the other.
-fn assemble(header: [u8; 10], region: [u8; 24], text: [u8; 30]) -> [u8; 64]
+fn assemble(header: [u8; 10], region: [u8; 24], text: [u8; 30]) -> [u8; SIZE]
     ensures { result ≡ header ++ (region ++ text) }
 {
-    let mut out = [0; 64];
+    let mut out = [0; SIZE];
     let (first, rest) = out.split_at_mut(10);
     let (middle, last) = rest.split_at_mut(24);
     first.copy_from_slice(&header);
@@ -56,7 +57,7 @@ fn compose<P: PlaceKind>(
     serial: u32,
     region: P::Region,
     text: &[u8],
-) -> Result<[u8; 64], MessageFault>
+) -> Result<[u8; SIZE], MessageFault>
     requires { text_fits text.now ≡ true }
     ensures { result ≡ message_answer P.PlaceKind.model serial region text.now }
 {
@@ -75,7 +76,7 @@ pub fn message<P: PlaceKind>(
     serial: u32,
     region: P::Region,
     text: &[u8],
-) -> Result<[u8; 64], MessageFault>
+) -> Result<[u8; SIZE], MessageFault>
     ensures value { result ≡ message_answer P.PlaceKind.model serial region text.now }
     ensures laws { MessageLaws P.PlaceKind.model }
 {

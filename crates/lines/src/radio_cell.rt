@@ -3,12 +3,12 @@ ghost use Rattle.std.specs.Prelude.{◌≡◌, []};
 ghost use Rattle.lines.specs.Cell.{cell_waiting};
 
 use crate::fault::LineFault;
-use crate::line::Line;
+use crate::line::{Line, SIZE};
 
 /// A line of capacity 1.
 #[derive(Drop)]
 pub struct RadioCell {
-    message: Option<[u8; 64]>,
+    message: Option<[u8; SIZE]>,
 }
 
 impl RadioCell {
@@ -26,11 +26,11 @@ impl Line for RadioCell {
     ghost capacity = { λ _. 1 };
 
     fn spare(&self) -> usize {
-        if self.message.is_none() { 1 } else { 0 }
+        usize::from(self.message.is_none())
     }
 
     fn send(&mut self, message: &[u8]) -> Result<(), LineFault> {
-        let message = message.as_array::<64>().ok_or(LineFault::Size)?;
+        let message = message.as_array::<SIZE>().ok_or(LineFault::Size)?;
         if self.message.is_some() {
             return Err(LineFault::Full);
         }
@@ -39,9 +39,7 @@ impl Line for RadioCell {
     }
 
     fn take(&mut self, space: &mut [u8]) -> Result<(), LineFault> {
-        let Some(space) = space.as_mut_array::<64>() else {
-            return Err(LineFault::Size);
-        };
+        let space = space.as_mut_array::<SIZE>().ok_or(LineFault::Size)?;
         *space = self.message.take().ok_or(LineFault::Empty)?;
         Ok(())
     }

@@ -2,14 +2,14 @@
 ghost use Rattle.std.specs.Prelude.{◌≡◌, ◌<◌, ◌≤◌, [], length};
 
 use crate::fault::LineFault;
-use crate::line::Line;
+use crate::line::{Line, SIZE};
 
 /// A line that keeps its messages in bytes handed to it, in a ring of slots of 64 bytes: none is moved, and freed slots
 /// serve again. Its calls write only in these bytes and never change how many there are; the bytes outside waiting messages
 /// may hold anything.
 #[derive(Drop)]
 pub struct Spool<'a> {
-    slots: &'a mut [[u8; 64]],
+    slots: &'a mut [[u8; SIZE]],
     first: usize,
     count: usize,
     ghost most: { length slots.now ≤ 1024 },
@@ -25,7 +25,7 @@ impl<'a> Spool<'a> {
         ensures empty { spool_waiting result ≡ [] }
         ensures capacity { spool_capacity result ≡ slots_in (length bytes.old) }
     {
-        let (slots, _) = bytes.as_chunks_mut::<64>();
+        let (slots, _) = bytes.as_chunks_mut::<SIZE>();
         let most = slots.len().min(1024);
         Spool {
             slots: &mut slots[..most],
@@ -48,7 +48,7 @@ impl<'a> Line for Spool<'a> {
     }
 
     fn send(&mut self, message: &[u8]) -> Result<(), LineFault> {
-        let message = message.as_array::<64>().ok_or(LineFault::Size)?;
+        let message = message.as_array::<SIZE>().ok_or(LineFault::Size)?;
         if self.count >= self.slots.len() {
             return Err(LineFault::Full);
         }
@@ -59,9 +59,7 @@ impl<'a> Line for Spool<'a> {
     }
 
     fn take(&mut self, space: &mut [u8]) -> Result<(), LineFault> {
-        let Some(space) = space.as_mut_array::<64>() else {
-            return Err(LineFault::Size);
-        };
+        let space = space.as_mut_array::<SIZE>().ok_or(LineFault::Size)?;
         if self.count == 0 {
             return Err(LineFault::Empty);
         }
