@@ -1,12 +1,14 @@
 //! The feed: reading its records, and the lines that are printed for them.
 #![tactic(auto)]
 
-ghost use Rattle.std.specs.Prelude.{◌≡◌, ◌++◌, IfOk, Some, string_bytes};
+ghost use Rattle.std.specs.Prelude.{◌≡◌, IfOk, Some, string_bytes};
+ghost use Rattle.refusals.specs.Words.{refusal_text};
 ghost use Rattle.feed.specs.Heading.{read_refusal, named, heading_of};
-ghost use Rattle.feed.specs.Text.{accepted_text, stop_text, heading_text};
+ghost use Rattle.feed.specs.Text.{stop_text, heading_text};
 
 use refusals::{Part, Refusal};
 use std::alloc::{AllocError, Global};
+use std::error::Error;
 use std::fmt;
 
 /// What the heading says: which kind of place the later records hold.
@@ -59,6 +61,18 @@ impl From<ReadFault> for Refusal {
     }
 }
 
+/// In print, a fault is its refusal.
+impl fmt::Display for ReadFault {
+    ghost output = { λ e. Some (refusal_text (read_refusal e)) };
+
+    fn fmt<W: fmt::Write>(&self, f: &mut fmt::Formatter<W>) -> fmt::Result {
+        let refusal = Refusal::from(*self);
+        write!(f, "{refusal}")
+    }
+}
+
+impl Error for ReadFault {}
+
 /// Where and why a feed stops: the record's number from 0, the byte at which it begins, and its fault.
 #[derive(Clone, Copy, PartialEq, Eq, Debug)]
 pub struct Stop {
@@ -71,10 +85,12 @@ impl fmt::Display for Stop {
     ghost output = { λ s. Some (stop_text s) };
 
     fn fmt<W: fmt::Write>(&self, f: &mut fmt::Formatter<W>) -> fmt::Result {
-        let number = self.number;
-        let refusal = Refusal::from(self.fault);
-        let offset = self.offset;
-        write!(f, "{number} fault {refusal} at {offset}")
+        let Stop {
+            number,
+            offset,
+            fault,
+        } = *self;
+        write!(f, "{number} fault {fault} at {offset}")
     }
 }
 

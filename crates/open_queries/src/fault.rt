@@ -1,8 +1,11 @@
 //! What the open queries refuse.
-ghost use Rattle.std.specs.Prelude.{◌≡◌};
+ghost use Rattle.std.specs.Prelude.{◌≡◌, Some};
+ghost use Rattle.refusals.specs.Words.{refusal_text};
 ghost use Rattle.open_queries.specs.Calls.{open_refusal};
 
 use refusals::{Part, Refusal};
+use std::error::Error;
+use std::fmt;
 
 /// Why the open queries refuse.
 #[derive(Clone, Copy, PartialEq, Eq, Debug)]
@@ -27,3 +30,15 @@ impl From<OpenFault> for Refusal {
         }
     }
 }
+
+/// In print, a fault is its refusal.
+impl fmt::Display for OpenFault {
+    ghost output = { λ e. Some (refusal_text (open_refusal e)) };
+
+    fn fmt<W: fmt::Write>(&self, f: &mut fmt::Formatter<W>) -> fmt::Result {
+        let refusal = Refusal::from(*self);
+        write!(f, "{refusal}")
+    }
+}
+
+impl Error for OpenFault {}

@@ -10,12 +10,13 @@ use crate::fault::OpenFault;
 use crate::handover::Handover;
 
 /// At most 64 queries, open and in hand, and the next serial, which is `None` once the last was given. No serial is in two
-/// entries, and none is as high as the next.
+/// entries, and none is as high as the next, or as 4,294,967,296 once there is none.
 #[derive(Drop)]
 pub struct OpenQueries {
     next: Option<u32>,
     entries: [Option<Entry>; 64],
     ghost low: { 1 ≤ next_number next },
+    ghost high: { next_number next ≤ 4294967296 },
     ghost once: { ((serial : ℕ) → holders entries serial ≤ 1) },
     ghost past: { ((serial : ℕ) → next_number next ≤ serial → holders entries serial ≡ 0) },
 }

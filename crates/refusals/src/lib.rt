@@ -32,7 +32,8 @@ impl fmt::Display for Part {
     }
 }
 
-/// A refusal as it is told: its number and the part that gave it. The error enum of a part turns into it by `From`.
+/// A refusal as it is told: its number and the part that gave it. The error enum of a part turns into it by `From`, and
+/// prints it.
 #[derive(Clone, Copy, PartialEq, Eq, Debug)]
 pub struct Refusal {
     pub number: u8,

@@ -11,6 +11,7 @@ invariant_of-self c =
     let fresh = c.args.self.now.past c.in_ok-i.serial (omega arith) in
     record {
       low = omega arith;
+      high = omega arith;
       once = λ s. once_put c.args.self.now.entries c.in_ok-i.i _ s (search rules) fresh (c.args.self.now.once s);
       past = λ s l. past_put c.args.self.now.entries c.in_ok-i.i _ s (search rules) (omega arith) (c.args.self.now.past s (omega arith));
     }

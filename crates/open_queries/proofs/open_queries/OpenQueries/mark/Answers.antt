@@ -17,6 +17,7 @@ invariant_of-self c =
     let h = turns _ _ _ _ _ _ f _ t in
     record {
       low = c.args.self.now.low;
+      high = c.args.self.now.high;
       once = λ s. omega (arith, h.fewer s, c.args.self.now.once s);
       past = λ s l. omega (arith, h.fewer s, c.args.self.now.past s l);
     }
