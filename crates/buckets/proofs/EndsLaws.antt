@@ -111,10 +111,6 @@ module _ (n k : ℕ) (hk : 1 ≤ k) (hn : k ≤ n) where
       (cases_lt d b))
       (cases_lt b d)
 
-  -- A bucket's start leaves room for k ranks.
-  pub start_fits : (b : ℕ) → b < n / k → b * k + k ≤ n
-  start_fits b l = omega (arith, (spread b l).least, (spread b l).within)
-
   pub ends_laws : EndsLaws n k
   ends_laws =
       record {

@@ -1,9 +1,8 @@
-//! A query: its checks, and then one message and one open query.
-ghost use Rattle.std.specs.Prelude.{◌≡◌, ℕ, ◌+◌, false, is_ok, Ok, Err};
-ghost use Rattle.open_queries.specs.View.{status_of, standing, next_of};
-ghost use Rattle.open_queries.specs.Calls.{at_serial, accepted, added};
+//! What asking needs: the checks of a query, in their order, and the sending of its message.
+ghost use Rattle.std.specs.Prelude.{◌≡◌, ℕ, false, is_ok, Ok, Err};
+ghost use Rattle.open_queries.specs.View.{standing, next_of};
 ghost use Rattle.register.specs.View.{capacity_of, place_of};
-ghost use Rattle.calls.specs.Answers.{query_checks, sent_after, told, Sendable};
+ghost use Rattle.calls.specs.Answers.{query_checks, sent_after, Sendable};
 
 use crate::fault::CallFault;
 use kinds::PlaceKind;

@@ -1,5 +1,6 @@
 //! What the calls refuse.
-ghost use Rattle.std.specs.Prelude.{◌≡◌};
+ghost use Rattle.std.specs.Prelude.{◌≡◌, Some};
+ghost use Rattle.refusals.specs.Words.{refusal_text};
 ghost use Rattle.lines.specs.declared.fault.MessageFault.TheVariants.{Kind as OfKind};
 ghost use Rattle.calls.specs.declared.fault.CallFault.TheVariants.{Register as OfRegister, Message as OfMessage, Open as OfOpen, Line as OfLine};
 ghost use Rattle.calls.specs.Faults.{call_refusal};
@@ -9,6 +10,8 @@ use lines::{LineFault, MessageFault};
 use open_queries::OpenFault;
 use refusals::Refusal;
 use register::RegisterFault;
+use std::error::Error;
+use std::fmt;
 
 /// Why a call is refused, by the part that refuses it.
 #[derive(Clone, Copy, PartialEq, Eq, Debug)]
@@ -71,3 +74,15 @@ impl From<CallFault> for Refusal {
         }
     }
 }
+
+/// In print, a fault is its refusal.
+impl fmt::Display for CallFault {
+    ghost output = { λ e. Some (refusal_text (call_refusal e)) };
+
+    fn fmt<W: fmt::Write>(&self, f: &mut fmt::Formatter<W>) -> fmt::Result {
+        let refusal = Refusal::from(*self);
+        write!(f, "{refusal}")
+    }
+}
+
+impl Error for CallFault {}

@@ -1,4 +1,4 @@
-//! The nine calls on a box, and one call that takes any of them.
+//! The call by which a set enters a box, and the checks of a query and the sending of its message, for the call that asks.
 #![tactic(auto)]
 
 mod asking;

@@ -1,10 +1,10 @@
-//! The calls on the register.
-ghost use Rattle.std.specs.Prelude.{◌≡◌, ℕ, false, List, is_ok, Some, None};
+//! Entering the register.
+ghost use Rattle.std.specs.Prelude.{◌≡◌, ℕ, false, List, is_ok, Some};
 ghost use Rattle.open_queries.specs.declared.open_queries.OpenQueries.{OpenQueries};
-ghost use Rattle.register.specs.Answers.{enter_answer, move_answer, leave_answer, changed};
+ghost use Rattle.register.specs.Answers.{enter_answer, changed};
 ghost use Rattle.register.specs.View.{capacity_of, place_of, Kept};
 ghost use Rattle.calls.specs.Agreement.{parts, Lives};
-ghost use Rattle.calls.specs.Events.{enter_event, move_event, leave_event};
+ghost use Rattle.calls.specs.Events.{enter_event};
 
 use kinds::PlaceKind;
 use model::{laws_at_each_point, one_life, parts_follow};

@@ -1,8 +1,8 @@
 //! Hilbert's curve at order 12: the key of a cell, the cell of a key, and cells compared by key.
 #![tactic(auto)]
 
-ghost use Rattle.std.specs.Prelude.{◌≡◌, ℕ, ◌<◌, Some};
-ghost use Rattle.curve.specs.Grid.{grid_key, grid_cell, by_key, LeadsBack, AtKey, OnCurve};
+ghost use Rattle.std.specs.Prelude.{◌≡◌, ℕ};
+ghost use Rattle.curve.specs.Grid.{grid_key, grid_cell, by_key, LeadsBack, OnCurve};
 ghost use Rattle.curve.specs.Laws.{CurveLaws, KnownKeys};
 
 mod square;

@@ -1,7 +1,7 @@
 //! The kinds in use, from their contracts alone.
 #![tactic(auto)]
 
-ghost use Rattle.std.specs.Prelude.{◌≡◌, ℕ, ◌≤◌, replicate, Ok, Err};
+ghost use Rattle.std.specs.Prelude.{◌≡◌, ◌≤◌, replicate, Ok, Err};
 ghost use Rattle.kinds.specs.declared.fault.KindFault.TheVariants.{TooWide};
 ghost use Rattle.kinds.specs.Bytes.{le16};
 ghost use Rattle.kinds.specs.Faults.{region_bytes};

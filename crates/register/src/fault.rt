@@ -1,10 +1,13 @@
 //! What the register refuses.
-ghost use Rattle.std.specs.Prelude.{◌≡◌};
+ghost use Rattle.std.specs.Prelude.{◌≡◌, Some};
+ghost use Rattle.refusals.specs.Words.{refusal_text};
 ghost use Rattle.register.specs.declared.fault.RegisterFault.TheVariants.{Kind as OfKind};
 ghost use Rattle.register.specs.Faults.{register_refusal};
 
 use kinds::KindFault;
 use refusals::{Part, Refusal};
+use std::error::Error;
+use std::fmt;
 
 /// Why the register refuses.
 #[derive(Clone, Copy, PartialEq, Eq, Debug)]
@@ -46,3 +49,15 @@ impl From<RegisterFault> for Refusal {
         Refusal { number, part }
     }
 }
+
+/// In print, a fault is its refusal.
+impl fmt::Display for RegisterFault {
+    ghost output = { λ e. Some (refusal_text (register_refusal e)) };
+
+    fn fmt<W: fmt::Write>(&self, f: &mut fmt::Formatter<W>) -> fmt::Result {
+        let refusal = Refusal::from(*self);
+        write!(f, "{refusal}")
+    }
+}
+
+impl Error for RegisterFault {}

@@ -184,13 +184,13 @@ fn run<F: Fn(&mut Scene<'_>, u64) -> Result<u64, RegisterFault>>(
     let start = Instant::now(rt)?;
     let mut sum = 0;
     for _ in 0..count {
-        sum = turn(&mut scene, sum).map_err(|_| anyhow!("a call was refused"))?;
+        sum = turn(&mut scene, sum).context("a call was refused")?;
     }
     let time = start.elapsed(rt)?.as_nanos();
     for set in 1..=sets.min(MOST_SETS) {
         sum = scene
             .bucket_sum(set, 10, sum)
-            .map_err(|_| anyhow!("a bucket was refused"))?;
+            .context("a bucket was refused")?;
     }
     Ok((sum, time))
 }
