@@ -3,7 +3,7 @@
 //! The functions state laws; they compute nothing.
 #![tactic(auto)]
 
-ghost use Rattle.std.specs.Prelude.{◌≡◌, ℕ, ◌-◌, ◌*◌, ◌<◌, List, ◌∷◌, Some, None};
+ghost use Rattle.std.specs.Prelude.{◌≡◌, ℕ, ◌+◌, ◌-◌, ◌*◌, ◌<◌, List, ◌∷◌, Some, None};
 ghost use Rattle.buckets.specs.Rows.{In};
 ghost use Rattle.model.specs.Events.{Call, Query, Event, History};
 ghost use Rattle.model.specs.Histories.{Box, asked_in, bucket, sent, serials, next_serial};
