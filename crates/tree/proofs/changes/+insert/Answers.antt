@@ -1,15 +1,7 @@
 use Rattle.std.proofs.Common.{sym, arith}
-use Rattle.tree.proofs.Rebalancing.{grow_root, grow_open, grow_child, fewer_child, after_child, end_child, end_leaf, leaf_two}
+use Rattle.tree.proofs.Rebalancing.{grow_open, grow_child, fewer_child, after_child, end_child}
 use Rattle.tree.proofs.Named.{even_named, rebalanced, stands_named}
 use Rattle.tree.proofs.changes.+insert.Goals as goal
-
-pub returns-then-root-eq0 : goal.returns-then-root-eq0
-returns-then-root-eq0 g t c =
-    λ u y. end_leaf g.P.PlaceKind.model c.args.entry.place u c.if-root-eq0.true y
-    (c.plant.ensures _ _ (leaf_two g.P.PlaceKind.model c.args.entry.place y))
-
-pub branch_at-here-requires : goal.branch_at-here-requires
-branch_at-here-requires g t c = grow_root g.P.PlaceKind.model c.args.entry.place c.requires.1 c.if-root-eq0.false
 
 pub insert-longer-requires : goal.insert-longer-requires
 insert-longer-requires g t c κs within =

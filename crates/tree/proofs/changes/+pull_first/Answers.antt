@@ -1,12 +1,9 @@
 use Rattle.std.proofs.Common.{arith}
 use Rattle.tree.specs.Shapes.{pulled}
 use Rattle.tree.proofs.Rebalancing.{done_at}
-use Rattle.tree.proofs.Removal.{tree_root, tree_open, tree_left, less_left, left_became, then_left, pulled_is, smaller_pulled}
+use Rattle.tree.proofs.Removal.{tree_open, tree_left, less_left, left_became, then_left, pulled_is, smaller_pulled}
 use Rattle.tree.proofs.Named.{even_named, rebalanced}
 use Rattle.tree.proofs.changes.+pull_first.Goals as goal
-
-pub branch_at-here-requires : goal.branch_at-here-requires
-branch_at-here-requires g t c = tree_root g.P.PlaceKind.model c.requires.treed.1 c.requires.some
 
 pub pull_first-left-requires : goal.pull_first-left-requires
 pull_first-left-requires g t c κs within =

@@ -2,12 +2,9 @@ use Rattle.std.proofs.Common.{cond, sym, arith}
 use Rattle.tree.specs.Shapes.{shrunk}
 use Rattle.tree.proofs.Rebalancing.{done_at}
 use Rattle.tree.proofs.Shrinking.{smaller}
-use Rattle.tree.proofs.Removal.{tree_root, tree_open, tree_child, tree_pair, less_child, child_became, then_child, shrunk_here, shrunk_child}
+use Rattle.tree.proofs.Removal.{tree_open, tree_child, tree_pair, less_child, child_became, then_child, shrunk_here, shrunk_child}
 use Rattle.tree.proofs.Named.{even_named, rebalanced, stands_named}
 use Rattle.tree.proofs.changes.+remove.Goals as goal
-
-pub branch_at-here-requires : goal.branch_at-here-requires
-branch_at-here-requires g t c = tree_root g.P.PlaceKind.model c.requires.1 (omega arith)
 
 pub fuse-requires : goal.fuse-requires
 fuse-requires g t c =

@@ -1,10 +1,6 @@
 use Rattle.std.proofs.Common.{◌<◌, arith, rules}
 use Rattle.tree.proofs.Held.{root_in, height_is, tall_root}
-use Rattle.tree.proofs.Rebalancing.{even_right, even_left, even_plain, done_at}
 use Rattle.tree.proofs.rotations.rebalance.Goals as goal
-
-pub height_at-low-requires : goal.height_at-low-requires
-height_at-low-requires g c = let y = c.requires.2.two in root_in _ _ c.requires.0 y.left_is (omega arith) y.held_l
 
 pub height_at-high-requires : goal.height_at-high-requires
 height_at-high-requires g c =
@@ -47,36 +43,3 @@ rotate_left-requires g c =
         root_in ns _ c.requires.1 y.right_is (omega arith) y.held_r,
       );
     }
-
-pub returns-then-low-high : goal.returns-then-low-high
-returns-then-low-high g c =
-    λ l r y.
-    let m = g.P.PlaceKind.model in
-    let hl = height_is c.args.nodes.now c.args.left c.height_at-low.result l y.two.left_is
-    c.height_at-low.ensures y.two.held_l in
-    let hr = height_is c.args.nodes.now c.args.right c.height_at-high.result r y.two.right_is
-    c.height_at-high.ensures y.two.held_r in
-    done_at m (even_right m l c.args.entry.set c.args.entry.place r (omega (arith, c.if-low-high.true)))
-    (c.rotate_right.ensures l r y)
-
-pub returns-then-high-low : goal.returns-then-high-low
-returns-then-high-low g c =
-    λ l r y.
-    let m = g.P.PlaceKind.model in
-    let hl = height_is c.args.nodes.now c.args.left c.height_at-low.result l y.two.left_is
-    c.height_at-low.ensures y.two.held_l in
-    let hr = height_is c.args.nodes.now c.args.right c.height_at-high.result r y.two.right_is
-    c.height_at-high.ensures y.two.held_r in
-    done_at m (even_left m l c.args.entry.set c.args.entry.place r (omega (arith, c.if-high-low.true)))
-    (c.rotate_left.ensures l r y)
-
-pub returns-else-high-low : goal.returns-else-high-low
-returns-else-high-low g c =
-    λ l r y.
-    let m = g.P.PlaceKind.model in
-    let hl = height_is c.args.nodes.now c.args.left c.height_at-low.result l y.two.left_is
-    c.height_at-low.ensures y.two.held_l in
-    let hr = height_is c.args.nodes.now c.args.right c.height_at-high.result r y.two.right_is
-    c.height_at-high.ensures y.two.held_r in
-    done_at m (even_plain m l c.args.entry.set c.args.entry.place r (omega (arith, c.if-low-high.false))
-    (omega (arith, c.if-high-low.false))) (c.plant.ensures l r y.two)

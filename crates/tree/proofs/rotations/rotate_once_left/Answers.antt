@@ -2,9 +2,6 @@ use Rattle.std.proofs.Common.{arith}
 use Rattle.tree.proofs.Writes.{left_first, left_second, done_done}
 use Rattle.tree.proofs.rotations.rotate_once_left.Goals as goal
 
-pub plant-requires : goal.plant-requires
-plant-requires g c = (c.requires.0, c.requires.1, left_first g.P.PlaceKind.model c.requires.3)
-
 pub plant-requires-2 : goal.plant-requires-2
 plant-requires-2 g c =
     let m = g.P.PlaceKind.model in

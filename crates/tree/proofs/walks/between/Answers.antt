@@ -1,46 +1,8 @@
-use Rattle.std.proofs.Common.{sym, refl, ◌∙◌, arith}
-use Rattle.tree.proofs.Removal.{tree_root, tree_open, tree_left, tree_right, less_left, less_right}
-use Rattle.tree.proofs.Descent.{left_in, joined_left, joined_right, between_mid}
+use Rattle.std.proofs.Common.{sym, ◌∙◌, arith}
+use Rattle.tree.proofs.Removal.{tree_open, tree_left, tree_right}
+use Rattle.tree.proofs.Descent.{joined_left, joined_right, between_mid}
 use Rattle.tree.proofs.Loops.{run_root, run_step_left, run_step_right}
 use Rattle.tree.proofs.walks.between.Goals as goal
-
-pub loop-keep-init : goal.loop-keep-init
-loop-keep-init g c =
-    record {
-      way = λ t y. record { rest = t; held = y; joined = λ h. h; same = refl };
-      some = c.requires.range.0;
-      within =
-          c.requires.range.1;
-    }
-
-pub branch_at-here-requires : goal.branch_at-here-requires
-branch_at-here-requires g c =
-    let m = g.P.PlaceKind.model in
-    let w = c.loop-keep.invariant in
-    let laws = g.met.P.PlaceKind.lawful in
-    tree_root m (w.way _ c.requires.treed.1).held (run_root m laws w c.requires.treed.1)
-
-pub count_at-lower-requires : goal.count_at-lower-requires
-count_at-lower-requires g c =
-    let m = g.P.PlaceKind.model in
-    let w = c.loop-keep.invariant in
-    let laws = g.met.P.PlaceKind.lawful in
-    let y = c.requires.treed.1 in
-    let v = w.way _ y in
-    let o = tree_open m v.held (run_root m laws w y) c.branch_at-here.ensures.place c.branch_at-here.ensures.left
-    c.branch_at-here.ensures.right in
-    left_in m v.held o
-
-pub loop-keep-smaller-then-keep-lower : goal.loop-keep-smaller-then-keep-lower
-loop-keep-smaller-then-keep-lower g c =
-    let m = g.P.PlaceKind.model in
-    let w = c.loop-keep.invariant in
-    let laws = g.met.P.PlaceKind.lawful in
-    let y = c.requires.treed.1 in
-    let v = w.way _ y in
-    let o = tree_open m v.held (run_root m laws w y) c.branch_at-here.ensures.place c.branch_at-here.ensures.left
-    c.branch_at-here.ensures.right in
-    less_left m v.held o _ refl
 
 pub loop-keep-preserved-then-keep-lower : goal.loop-keep-preserved-then-keep-lower
 loop-keep-preserved-then-keep-lower g c =
@@ -50,17 +12,6 @@ loop-keep-preserved-then-keep-lower g c =
     run_step_left m laws w
     (λ t y. tree_open m (w.way t y).held (run_root m laws w y) c.branch_at-here.ensures.place
     c.branch_at-here.ensures.left c.branch_at-here.ensures.right) c.count_at-lower.ensures c.if-keep-lower.true
-
-pub loop-keep-smaller : goal.loop-keep-smaller
-loop-keep-smaller g c =
-    let m = g.P.PlaceKind.model in
-    let w = c.loop-keep.invariant in
-    let laws = g.met.P.PlaceKind.lawful in
-    let y = c.requires.treed.1 in
-    let v = w.way _ y in
-    let o = tree_open m v.held (run_root m laws w y) c.branch_at-here.ensures.place c.branch_at-here.ensures.left
-    c.branch_at-here.ensures.right in
-    less_right m v.held o _ refl
 
 pub loop-keep-preserved : goal.loop-keep-preserved
 loop-keep-preserved g c =
