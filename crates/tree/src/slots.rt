@@ -1,5 +1,5 @@
 //! Reading a slot field by field, and writing it whole.
-ghost use Rattle.std.specs.Prelude.{◌≡◌, ◌<◌, min, length, if◌then◌else◌, Some, slice_set};
+ghost use Rattle.std.specs.Prelude.{◌≡◌, ◌<◌, min, length, Some, slice_set};
 ghost use Rattle.tree.specs.declared.node.Node.{Node};
 ghost use Rattle.tree.specs.Slots.{at, height_of, count_of, left_child, right_child, held_place, held_join, joined_over, made, idle};
 ghost use Rattle.tree.specs.Tree.{Tree, linked};
