@@ -21,7 +21,8 @@ fn reflected(side: u16, digit: u32, cell: Cell) -> Cell
     ensures value { result ≡ reflected_of side digit cell.x cell.y }
     ensures inside { InSquare side result }
 {
-    let Cell { x, y } = if digit == 3 {
+    let up = digit == 1 || digit == 2;
+    let Cell { x, y } = if digit >= 2 && !up {
         Cell {
             x: side - 1 - cell.x,
             y: side - 1 - cell.y,
@@ -29,7 +30,7 @@ fn reflected(side: u16, digit: u32, cell: Cell) -> Cell
     } else {
         cell
     };
-    if digit == 0 || digit == 3 {
+    if !up {
         Cell { x: y, y: x }
     } else {
         Cell { x, y }
@@ -55,12 +56,8 @@ impl SquareCell {
         let order = self.order - 1;
         let half: u16 = 1 << order;
         let Cell { x, y } = self.cell;
-        let digit = match (x < half, y < half) {
-            (true, true) => 0,
-            (true, false) => 1,
-            (false, false) => 2,
-            (false, true) => 3,
-        };
+        let upper = u32::from(y >= half);
+        let digit = if x < half { upper } else { 3 - upper };
         let within = Cell {
             x: x % half,
             y: y % half,
@@ -78,12 +75,8 @@ impl SquareCell {
         let side = self.side();
         let Cell { x, y } = reflected(side, digit, self.cell);
         let cell = Cell {
-            x: if digit >= 2 { x + side } else { x },
-            y: if digit == 1 || digit == 2 {
-                y + side
-            } else {
-                y
-            },
+            x: x + side * (digit / 2) as u16,
+            y: y + side * u16::from(digit == 1 || digit == 2),
         };
         SquareCell {
             order: self.order + 1,
