@@ -1,17 +1,14 @@
 //! A tree with one entry more, or one less.
-ghost use Rattle.std.specs.Prelude.{◌≡◌, ℕ, ◌<◌, true, if◌then◌else◌, Some, None, nat_eq};
-ghost use Rattle.std.specs.List.{slice_get};
+ghost use Rattle.std.specs.Prelude.{◌≡◌, ◌<◌};
 ghost use Rattle.buckets.specs.Rows.{ahead};
 ghost use Rattle.tree.specs.Tree.{Tree};
 ghost use Rattle.tree.specs.Shapes.{grown, first_slot, pulled, fused, shrunk};
-ghost use Rattle.tree.specs.Rows.{without};
-ghost use Rattle.tree.specs.Whole.{place_in, row_in, shaped, Orderly};
 ghost use Rattle.tree.specs.Contracted.{Grow, GrowAt, Treed, TreeAt, Paired, PairAt, Done};
 
 use crate::node::Node;
 use crate::rotations::rebalance;
-use crate::slots::{branch_at, clear, count_at, left_at, place_at, plant};
-use buckets::{Entry, ahead_laws};
+use crate::slots::{branch_at, left_at, place_at, plant};
+use buckets::Entry;
 use kinds::PlaceKind;
 
 // Whether `a` stands ahead of `b`.
@@ -104,26 +101,4 @@ pub(crate) fn remove<P: PlaceKind>(
     let shorter = remove(nodes, here.child(goes_left), entry);
     let (left, right) = here.with_child(goes_left, shorter);
     rebalance(nodes, here.entry, left, right)
-}
-
-// Takes the entry of a set that is present out of the whole tree, marks its slot as not in use, and returns the new root.
-pub(crate) fn take_out<P: PlaceKind>(
-    nodes: &mut [Node<P, P::Region>],
-    root: u16,
-    entry: Entry<P>,
-) -> u16
-    requires shape { shaped nodes.old root ≡ true }
-    requires there { place_in nodes.old entry.set ≡ Some entry.place }
-    ensures shape { shaped nodes.new result ≡ true }
-    ensures view { Orderly P.PlaceKind.model nodes.old root → (j : ℕ) → place_in nodes.new j ≡ (if nat_eq j entry.set then None else place_in nodes.old j) }
-    ensures others { (j : ℕ) → place_in nodes.old j ≡ None → slice_get nodes.new j ≡ slice_get nodes.old j }
-    ensures order { Orderly P.PlaceKind.model nodes.old root → Orderly P.PlaceKind.model nodes.new result × (row_in nodes.new result ≡ without entry.set (row_in nodes.old root)) }
-{
-    ahead_laws::<P>();
-    let many = count_at(nodes, root);
-    let rest = remove(nodes, root, entry);
-    if count_at(nodes, rest) != many {
-        clear(nodes, entry.set);
-    }
-    rest
 }

@@ -5,10 +5,14 @@
 mod changes;
 mod node;
 mod ranked_tree;
+mod reading;
 mod rotations;
 mod slots;
 mod walks;
+mod writing;
 
 pub use node::Node;
 pub use ranked_tree::RankedTree;
+pub use reading::{count, covers, height, one_row, rank_of};
 pub use slots::{capacity, place_of};
+pub use writing::{clear_all, enter, leave, relocate};

@@ -7,11 +7,11 @@ ghost use Rattle.buckets.specs.Rows.{entry, inserted, rank_of, row};
 ghost use Rattle.buckets.specs.Regions.{members, region_of};
 ghost use Rattle.tree.specs.Rows.{without, find, often};
 
-use crate::changes::{insert, take_out};
 use crate::node::Node;
-use crate::slots::{capacity, clear, count_at, height_at, limit, place_of};
-use crate::walks::{between, rank};
-use buckets::{Ends, Entry, ahead_laws, row_laws};
+use crate::reading::{count, covers, height, one_row, rank_of};
+use crate::slots::{capacity, place_of};
+use crate::writing::{clear_all, enter, leave, relocate};
+use buckets::{Ends, Entry};
 use kinds::PlaceKind;
 
 /// A balanced tree of entries over lent slots: its root, and the slots, in which each slot in use stands once in the tree.
@@ -33,10 +33,7 @@ impl<'a, P: PlaceKind> RankedTree<'a, P> {
         ensures order { InOrder P.PlaceKind.model result }
         ensures empty { row_of result ≡ [] }
     {
-        let end = limit(slots);
-        for slot in 1..end {
-            clear(slots, slot);
-        }
+        clear_all(slots);
         RankedTree { slots, root: 0 }
     }
 
@@ -63,8 +60,7 @@ impl<'a, P: PlaceKind> RankedTree<'a, P> {
         ensures others { (j : ℕ) → place_of self.new j ≡ None → slot self.new j ≡ slot self.old j }
         ensures order { InOrder P.PlaceKind.model self.old → Admitted P.PlaceKind.model entry.place → InOrder P.PlaceKind.model self.new × (row_of self.new ≡ inserted P.PlaceKind.model entry (row_of self.old)) }
     {
-        ahead_laws::<P>();
-        self.root = insert(self.slots, self.root, entry);
+        self.root = enter(self.slots, self.root, entry);
     }
 
     /// Takes the entry of a set that is present out.
@@ -75,7 +71,7 @@ impl<'a, P: PlaceKind> RankedTree<'a, P> {
         ensures others { (j : ℕ) → place_of self.old j ≡ None → slot self.new j ≡ slot self.old j }
         ensures order { InOrder P.PlaceKind.model self.old → InOrder P.PlaceKind.model self.new × (row_of self.new ≡ without entry.set (row_of self.old)) }
     {
-        self.root = take_out(self.slots, self.root, entry);
+        self.root = leave(self.slots, self.root, entry);
     }
 
     /// Moves a set that is present to a place.
@@ -86,10 +82,7 @@ impl<'a, P: PlaceKind> RankedTree<'a, P> {
         ensures others { (j : ℕ) → place_of self.old j ≡ None → slot self.new j ≡ slot self.old j }
         ensures order { InOrder P.PlaceKind.model self.old → Admitted P.PlaceKind.model place → InOrder P.PlaceKind.model self.new × (row_of self.new ≡ inserted P.PlaceKind.model (entry from.set place) (without from.set (row_of self.old))) }
     {
-        self.leave(from);
-        if self.place_of(from.set).is_none() {
-            self.enter(Entry { place, ..from });
-        }
+        self.root = relocate(self.slots, self.root, from, place);
     }
 
     /// How many sets are present.
@@ -98,10 +91,7 @@ impl<'a, P: PlaceKind> RankedTree<'a, P> {
         ensures most { result ≤ 4095 }
         ensures row { (j : ℕ) → (find j (row_of self.now) ≡ place_of self.now j) × (often j (row_of self.now) ≤ 1) }
     {
-        if self.root == 0 {
-            return 0;
-        }
-        count_at(self.slots, self.root)
+        count(self.slots, self.root)
     }
 
     /// How many sets stand before one that is present.
@@ -110,8 +100,7 @@ impl<'a, P: PlaceKind> RankedTree<'a, P> {
         ensures low { result ≤ length (row_of self.now) }
         ensures rank { InOrder P.PlaceKind.model self.now → result ≡ rank_of entry.set (row_of self.now) }
     {
-        ahead_laws::<P>();
-        rank(self.slots, self.root, entry)
+        rank_of(self.slots, self.root, entry)
     }
 
     /// The join of the regions of the entries from one rank to another.
@@ -119,7 +108,7 @@ impl<'a, P: PlaceKind> RankedTree<'a, P> {
         requires range { (ends.first ≤ ends.last) × (ends.last < length (row_of self.now)) }
         ensures { InOrder P.PlaceKind.model self.now → (e : Entry P) (es : List (Entry P)) → members ends (row_of self.now) ≡ e ∷ es → result ≡ region_of P.PlaceKind.model e es }
     {
-        between(self.slots, self.root, ends.first, ends.last + 1)
+        covers(self.slots, self.root, ends)
     }
 
     /// How high the tree stands: at most 16 levels.
@@ -127,10 +116,7 @@ impl<'a, P: PlaceKind> RankedTree<'a, P> {
         ensures value { result ≡ height_of self.now }
         ensures most { result ≤ 16 }
     {
-        if self.root == 0 {
-            return 0;
-        }
-        height_at(self.slots, self.root)
+        height(self.slots, self.root)
     }
 
     /// The tree's row holds each set at its place and no set twice, and is the row of the present sets, where the tree is in order.
@@ -138,6 +124,6 @@ impl<'a, P: PlaceKind> RankedTree<'a, P> {
         ensures row { (j : ℕ) → (find j (row_of self.now) ≡ place_of self.now j) × (often j (row_of self.now) ≤ 1) }
         ensures one { InOrder P.PlaceKind.model self.now → row_of self.now ≡ row P.PlaceKind.model (place_of self.now) (capacity_of self.now) }
     {
-        row_laws::<P>();
+        one_row(self.slots, self.root);
     }
 }

@@ -8,7 +8,7 @@ use Rattle.tree.proofs.Held.{root_in, count_is}
 use Rattle.tree.proofs.Shape.{shape_of, shape_made}
 use Rattle.tree.proofs.Presence.{shape_tree_at, nowhere, in_room}
 use Rattle.tree.proofs.Leaving.{shape_stays, shape_went, was, others_stay, others_went, found, view_went, order_went}
-use Rattle.tree.proofs.changes.take_out.Goals as goal
+use Rattle.tree.proofs.writing.leave.Goals as goal
 
 pub count_at-many-requires : goal.count_at-many-requires
 count_at-many-requires g c =
