@@ -8,7 +8,7 @@ ghost use Rattle.calls.specs.Faults.{call_refusal};
 use kinds::KindFault;
 use lines::{LineFault, MessageFault};
 use open_queries::OpenFault;
-use refusals::Refusal;
+use refusals::{Fault, Refusal};
 use register::RegisterFault;
 use std::error::Error;
 use std::fmt;
@@ -72,6 +72,14 @@ impl From<CallFault> for Refusal {
             CallFault::Open(e) => Refusal::from(e),
             CallFault::Line(e) => Refusal::from(e),
         }
+    }
+}
+
+impl Fault for CallFault {
+    ghost means = { call_refusal };
+
+    fn refusal(&self) -> Refusal {
+        (*self).into()
     }
 }
 

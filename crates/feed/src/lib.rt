@@ -6,7 +6,7 @@ ghost use Rattle.refusals.specs.Words.{refusal_text};
 ghost use Rattle.feed.specs.Heading.{read_refusal, named, heading_of};
 ghost use Rattle.feed.specs.Text.{stop_text, heading_text};
 
-use refusals::{Part, Refusal};
+use refusals::{Fault, Part, Refusal};
 use std::alloc::{AllocError, Global};
 use std::error::Error;
 use std::fmt;
@@ -58,6 +58,14 @@ impl From<ReadFault> for Refusal {
             number: fault as u8,
             part: Part::Feed,
         }
+    }
+}
+
+impl Fault for ReadFault {
+    ghost means = { read_refusal };
+
+    fn refusal(&self) -> Refusal {
+        (*self).into()
     }
 }
 

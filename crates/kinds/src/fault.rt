@@ -3,7 +3,7 @@ ghost use Rattle.std.specs.Prelude.{◌≡◌, Some};
 ghost use Rattle.refusals.specs.Words.{refusal_text};
 ghost use Rattle.kinds.specs.Faults.{kind_refusal};
 
-use refusals::{Part, Refusal};
+use refusals::{Fault, Part, Refusal};
 use std::error::Error;
 use std::fmt;
 
@@ -24,6 +24,14 @@ impl From<KindFault> for Refusal {
             number: fault as u8,
             part: Part::Kind,
         }
+    }
+}
+
+impl Fault for KindFault {
+    ghost means = { kind_refusal };
+
+    fn refusal(&self) -> Refusal {
+        (*self).into()
     }
 }
 

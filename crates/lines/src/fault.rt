@@ -5,7 +5,7 @@ ghost use Rattle.lines.specs.declared.fault.MessageFault.TheVariants.{Kind as Of
 ghost use Rattle.lines.specs.MessageFaults.{message_refusal, line_refusal};
 
 use kinds::KindFault;
-use refusals::{Part, Refusal};
+use refusals::{Fault, Part, Refusal};
 use std::error::Error;
 use std::fmt;
 
@@ -40,6 +40,15 @@ impl From<MessageFault> for Refusal {
     }
 }
 
+impl Fault for MessageFault {
+    ghost means = { message_refusal };
+
+    fn refusal(&self) -> Refusal {
+        let message_fault = *self;
+        message_fault.into()
+    }
+}
+
 /// In print, a fault is its refusal.
 impl fmt::Display for MessageFault {
     ghost output = { λ e. Some (refusal_text (message_refusal e)) };
@@ -71,6 +80,15 @@ impl From<LineFault> for Refusal {
             number: fault as u8,
             part: Part::Line,
         }
+    }
+}
+
+impl Fault for LineFault {
+    ghost means = { line_refusal };
+
+    fn refusal(&self) -> Refusal {
+        let line_fault = *self;
+        line_fault.into()
     }
 }
 

@@ -3,7 +3,7 @@ ghost use Rattle.std.specs.Prelude.{◌≡◌, Some};
 ghost use Rattle.refusals.specs.Words.{refusal_text};
 ghost use Rattle.open_queries.specs.Calls.{open_refusal};
 
-use refusals::{Part, Refusal};
+use refusals::{Fault, Part, Refusal};
 use std::error::Error;
 use std::fmt;
 
@@ -28,6 +28,14 @@ impl From<OpenFault> for Refusal {
             number: fault as u8,
             part: Part::Open,
         }
+    }
+}
+
+impl Fault for OpenFault {
+    ghost means = { open_refusal };
+
+    fn refusal(&self) -> Refusal {
+        (*self).into()
     }
 }
 

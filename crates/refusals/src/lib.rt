@@ -1,7 +1,8 @@
 //! What every refusal has: a number, and the part of the device that gave it.
 #![tactic(auto)]
 
-ghost use Rattle.std.specs.Prelude.{Some};
+ghost use Rattle.std.specs.Prelude.{◌≡◌, Some};
+ghost use Rattle.refusals.specs.declared.Refusal.{Refusal};
 ghost use Rattle.refusals.specs.Words.{word, refusal_text};
 
 use std::fmt;
@@ -47,4 +48,13 @@ impl fmt::Display for Refusal {
         let Refusal { number, part } = *self;
         write!(f, "{number} {part}")
     }
+}
+
+/// A fault of one part. `means` gives, case by case, the refusal that it stands for, so that code over any fault has its
+/// refusal as a function of it; `From` relates the two in each enum alone.
+pub trait Fault {
+    ghost means: { Self → Refusal };
+
+    fn refusal(&self) -> Refusal
+        ensures { result ≡ means self.now };
 }

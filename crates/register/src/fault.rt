@@ -5,7 +5,7 @@ ghost use Rattle.register.specs.declared.fault.RegisterFault.TheVariants.{Kind a
 ghost use Rattle.register.specs.Faults.{register_refusal};
 
 use kinds::KindFault;
-use refusals::{Part, Refusal};
+use refusals::{Fault, Part, Refusal};
 use std::error::Error;
 use std::fmt;
 
@@ -47,6 +47,14 @@ impl From<RegisterFault> for Refusal {
             RegisterFault::TooFew => (23, Part::Register),
         };
         Refusal { number, part }
+    }
+}
+
+impl Fault for RegisterFault {
+    ghost means = { register_refusal };
+
+    fn refusal(&self) -> Refusal {
+        (*self).into()
     }
 }
 
