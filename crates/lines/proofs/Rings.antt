@@ -1,11 +1,13 @@
 -- A ring of slots: what is read first, and what a write behind the last message adds.
-use Rattle.std.proofs.Common.{◌≡◌, ℕ, zero, suc, ◌+◌, ◌-◌, ◌%◌, ◌<◌, List, [], ◌∷◌, ◌++◌, length, get_or, sym, refl, ap, ◌∙◌, inl, inr, arith, mod-eq_of_lt}
+use Rattle.std.proofs.Common.{◌≡◌, ℕ, zero, suc, ◌+◌, ◌-◌, ◌*◌, ◌/◌, ◌%◌, ◌<◌, ◌≤◌, List, [], ◌∷◌, ◌++◌, length, take, drop, get_or, sym, refl, ap, ◌∙◌, subst, inl, inr, arith, mod-eq_of_lt, length-drop, add-mul}
 use Rattle.std.proofs.Math.ListN.{set, length-set}
 use Rattle.std.proofs.Math.Nat.{mod-add-mod}
 use native.Mathlib.Nat.{mod-eq-sub-mod}
 use Rattle.std.proofs.lemmas.Nat.{mod_below}
 use Rattle.std.proofs.lemmas.List.{get_or-set_same, get_or-set_other}
-use Rattle.std.proofs.lemmas.Bool.{cases_lt}
+use Rattle.std.proofs.lemmas.Bool.{cases_lt, cases_eq}
+use Rattle.std.proofs.lemmas.List.{length-take-le}
+use Rattle.std.specs.Simd.{first_chunks}
 use Rattle.lines.specs.Ring.{next_slot, ring}
 
 pub length_ring : (slots : List (List ℕ)) (i k : ℕ) → length (ring slots i k) ≡ k
@@ -52,3 +54,31 @@ pub ring_push : (slots : List (List ℕ)) (m : List ℕ) (i k : ℕ) → i < len
 ring_push slots m i k hi hk =
     let s : k + 1 ≡ suc k = omega arith in
     ap (ring (set slots ((i + k) % length slots) m) i) s ∙ push_at slots m i k ((i + k) % length slots) hi hk refl
+
+-- The first of the chunks of n bytes have n bytes each.
+pub whole_chunks : (n k m : ℕ) (bytes : List ℕ) → k * n ≤ length bytes → m ≤ k → (i : ℕ) → i < m
+    → length (get_or (take m (first_chunks n k bytes)) i []) ≡ n
+whole_chunks n zero m bytes h l i b = absurd (omega arith)
+whole_chunks n (suc k) zero bytes h l i b = absurd (omega arith)
+whole_chunks n (suc k) (suc m) bytes h l zero b = length-take-le n bytes (omega (arith, add-mul k 1 n))
+whole_chunks n (suc k) (suc m) bytes h l (suc i) b =
+    let d = length-drop n bytes in
+    whole_chunks n k m (drop n bytes) (omega (arith, add-mul k 1 n)) (omega arith) i (omega arith)
+
+pub whole_front : (m : ℕ) (bytes : List ℕ) (slots : List (List ℕ)) → slots ≡ first_chunks 64 (length bytes / 64) bytes
+    → length slots ≡ length bytes / 64 → m ≤ length slots
+    → (i : ℕ) → i < length (take m slots) → length (get_or (take m slots) i []) ≡ 64
+whole_front m bytes slots e l b i h =
+    let t : length (take m slots) ≡ m = length-take-le m slots b in
+    rw e (whole_chunks 64 (length bytes / 64) m bytes (omega arith) (omega arith) i (omega arith))
+
+-- Slots that have n bytes each still do with another message of n bytes.
+pub whole_set : (n : ℕ) (slots : List (List ℕ)) (p : ℕ) (m : List ℕ) → length m ≡ n
+    → ((i : ℕ) → i < length slots → length (get_or slots i []) ≡ n)
+    → (i : ℕ) → i < length (set slots p m) → length (get_or (set slots p m) i []) ≡ n
+whole_set n slots p m l w i h =
+    let hi : i < length slots = rw length-set at h in
+    elim (cases_eq i p) [
+      | inl e ↦ rw e (ap length (get_or-set_same slots p m [] (subst (λ (j : ℕ). j < length slots) e hi)) ∙ l)
+      | inr ne ↦ ap length (get_or-set_other slots p i m [] ne) ∙ w i hi
+    ]

@@ -1,5 +1,5 @@
 //! A line over bytes that are handed to it.
-ghost use Rattle.std.specs.Prelude.{◌≡◌, ◌<◌, ◌≤◌, [], length};
+ghost use Rattle.std.specs.Prelude.{◌≡◌, ℕ, ◌<◌, ◌≤◌, [], length, slice_index_or};
 
 use crate::fault::LineFault;
 use crate::line::{Line, SIZE};
@@ -15,6 +15,7 @@ pub struct Spool<'a> {
     ghost most: { length slots.now ≤ 1024 },
     ghost filled: { count ≤ length slots.now },
     ghost within: { (0 < length slots.now → first < length slots.now) },
+    ghost whole: { ((i : ℕ) → i < length slots.now → length (slice_index_or slots.now i []) ≡ 64) },
 }
 
 impl<'a> Spool<'a> {
