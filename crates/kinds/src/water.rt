@@ -45,8 +45,11 @@ impl<P: PlaceKind> PlaceKind for WaterPlace<P> {
     }
 
     fn compare(&self, other: &WaterPlace<P>) -> Ordering {
-        let by_water = self.water.cmp(&other.water);
-        by_water.then_with(|| self.below.compare(&other.below))
+        if self.water == other.water {
+            self.below.compare(&other.below)
+        } else {
+            self.water.cmp(&other.water)
+        }
     }
 
     fn region(&self) -> WaterRegion<P::Region> {
