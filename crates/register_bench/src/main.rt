@@ -79,15 +79,20 @@ struct Walk {
 }
 
 impl Walk {
-    // A walk that starts anywhere.
-    fn from_anywhere(random: &mut Random) -> Walk {
-        let x = random.coordinate();
-        let y = random.coordinate();
+    // A walk that starts at a cell.
+    fn from_cell(x: u16, y: u16) -> Walk {
         Walk {
             home: PlanePlace::new(x, y),
             beside: PlanePlace::new(x ^ 1, y),
             away: false,
         }
+    }
+
+    // A walk that starts anywhere.
+    fn from_anywhere(random: &mut Random) -> Walk {
+        let x = random.coordinate();
+        let y = random.coordinate();
+        Walk::from_cell(x, y)
     }
 
     // Where the set goes on a short move.
@@ -106,7 +111,7 @@ fn mixed(sum: u64, x: &u16) -> u64 {
 #[derive(Drop)]
 struct Scene<'a> {
     register: Register<'a, PlanePlace>,
-    walks: Vec<Walk>,
+    walks: &'a mut [Walk],
     random: Random,
     sets: u16,
 }
@@ -155,6 +160,30 @@ impl Scene<'_> {
         let set = self.random.set(self.sets);
         self.bucket_sum(set, size, sum)
     }
+
+    // The checksum of so many turns.
+    fn turns<F: Fn(&mut Scene<'_>, u64) -> Result<u64, RegisterFault>>(
+        &mut self,
+        count: u32,
+        turn: F,
+    ) -> Result<u64, RegisterFault>
+        requires { F.IsAlwaysCallable turn }
+    {
+        let mut sum = 0;
+        for _ in 0..count {
+            sum = turn(self, sum)?;
+        }
+        Ok(sum)
+    }
+
+    // A checksum of the buckets of all sets.
+    fn all_buckets(&self, sum: u64) -> Result<u64, RegisterFault> {
+        let mut sum = sum;
+        for set in 1..=self.sets.min(MOST_SETS) {
+            sum = self.bucket_sum(set, 10, sum)?;
+        }
+        Ok(sum)
+    }
 }
 
 // The checksum of a run, and the nanoseconds that its turns took.
@@ -167,31 +196,25 @@ fn run<F: Fn(&mut Scene<'_>, u64) -> Result<u64, RegisterFault>>(
     requires { F.IsAlwaysCallable turn }
 {
     let mut random = Random { state: 1 };
-    let walks = (0..sets.min(MOST_SETS))
-        .map(|_| Walk::from_anywhere(&mut random))
-        .collect::<Vec<Walk>>(rt.alloc())?;
+    let mut walks = [Walk::from_cell(0, 0); 4095];
+    for walk in walks.iter_mut().take(usize::from(sets)) {
+        *walk = Walk::from_anywhere(&mut random);
+    }
     let mut slots = [unused_slot(PlanePlace::new(0, 0)); 4096];
     let mut register = Register::new(&mut slots);
-    for (set, walk) in (1..4096u16).zip(&walks) {
+    for (set, walk) in (1..=sets.min(MOST_SETS)).zip(walks.iter()) {
         let _ = register.enter(set, walk.home);
     }
     let mut scene = Scene {
         register,
-        walks,
+        walks: &mut walks,
         random,
         sets,
     };
     let start = Instant::now(rt)?;
-    let mut sum = 0;
-    for _ in 0..count {
-        sum = turn(&mut scene, sum).context("a call was refused")?;
-    }
+    let sum = scene.turns(count, turn).ok().context("a call was refused")?;
     let time = start.elapsed(rt)?.as_nanos();
-    for set in 1..=sets.min(MOST_SETS) {
-        sum = scene
-            .bucket_sum(set, 10, sum)
-            .context("a bucket was refused")?;
-    }
+    let sum = scene.all_buckets(sum).ok().context("a bucket was refused")?;
     Ok((sum, time))
 }
 
