@@ -6,7 +6,7 @@ use native.Mathlib.Nat.{mod-eq-sub-mod}
 use Rattle.std.proofs.lemmas.Nat.{mod_below}
 use Rattle.std.proofs.lemmas.List.{get_or-set_same, get_or-set_other}
 use Rattle.std.proofs.lemmas.Bool.{cases_lt, cases_eq}
-use Rattle.std.proofs.lemmas.List.{length-take-le}
+use Rattle.std.proofs.lemmas.List.{length-take, length-take-le, get_or-take}
 use Rattle.std.specs.Simd.{first_chunks}
 use Rattle.lines.specs.Ring.{next_slot, ring}
 
@@ -55,22 +55,23 @@ ring_push slots m i k hi hk =
     let s : k + 1 ≡ suc k = omega arith in
     ap (ring (set slots ((i + k) % length slots) m) i) s ∙ push_at slots m i k ((i + k) % length slots) hi hk refl
 
--- The first of the chunks of n bytes have n bytes each.
-pub whole_chunks : (n k m : ℕ) (bytes : List ℕ) → k * n ≤ length bytes → m ≤ k → (i : ℕ) → i < m
-    → length (get_or (take m (first_chunks n k bytes)) i []) ≡ n
-whole_chunks n zero m bytes h l i b = absurd (omega arith)
-whole_chunks n (suc k) zero bytes h l i b = absurd (omega arith)
-whole_chunks n (suc k) (suc m) bytes h l zero b = length-take-le n bytes (omega (arith, add-mul k 1 n))
-whole_chunks n (suc k) (suc m) bytes h l (suc i) b =
+-- Chunks of n bytes have n bytes each.
+pub whole_chunks : (n k : ℕ) (bytes : List ℕ) → k * n ≤ length bytes → (i : ℕ) → i < k
+    → length (get_or (first_chunks n k bytes) i []) ≡ n
+whole_chunks n zero bytes h i b = absurd (omega arith)
+whole_chunks n (suc k) bytes h zero b = length-take-le n bytes (omega (arith, add-mul k 1 n))
+whole_chunks n (suc k) bytes h (suc i) b =
     let d = length-drop n bytes in
-    whole_chunks n k m (drop n bytes) (omega (arith, add-mul k 1 n)) (omega arith) i (omega arith)
+    whole_chunks n k (drop n bytes) (omega (arith, add-mul k 1 n)) i (omega arith)
 
 pub whole_front : (m : ℕ) (bytes : List ℕ) (slots : List (List ℕ)) → slots ≡ first_chunks 64 (length bytes / 64) bytes
-    → length slots ≡ length bytes / 64 → m ≤ length slots
+    → length slots ≡ length bytes / 64
     → (i : ℕ) → i < length (take m slots) → length (get_or (take m slots) i []) ≡ 64
-whole_front m bytes slots e l b i h =
-    let t : length (take m slots) ≡ m = length-take-le m slots b in
-    rw e (whole_chunks 64 (length bytes / 64) m bytes (omega arith) (omega arith) i (omega arith))
+whole_front m bytes slots e l i h =
+    let t = length-take m slots in
+    let c : length (get_or slots i []) ≡ 64 =
+    rw e (whole_chunks 64 (length bytes / 64) bytes (omega arith) i (omega (arith, t, l))) in
+    rw (get_or-take m slots i [] (omega (arith, t))) c
 
 -- Slots that have n bytes each still do with another message of n bytes.
 pub whole_set : (n : ℕ) (slots : List (List ℕ)) (p : ℕ) (m : List ℕ) → length m ≡ n
